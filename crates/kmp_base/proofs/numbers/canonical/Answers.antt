@@ -1,0 +1,15 @@
+use Rattle.std.proofs.Common.{◌≡◌, rules}
+use Rattle.std.proofs.lemmas.Fmt.{parse-decimal}
+use Rattle.kmp_base.proofs.numbers.canonical.Goals as goal
+
+pub returns-else-eq : goal.returns-else-eq
+returns-else-eq c = record {
+  value = λ n fits is.
+      let read = parse-decimal 64 n _ _ fits fits is c.parse.ensures.value.0 in
+      let text : c.format.result.now ≡ c.args.text.now = cc is in search rules;
+}
+
+pub returns-in-Err : goal.returns-in-Err
+returns-in-Err c = record {
+  value = λ n fits is. absurd (cc (parse-decimal 64 n _ _ fits fits is c.parse.ensures.value.0));
+}

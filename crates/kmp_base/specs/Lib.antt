@@ -1,0 +1,6 @@
+pub mod Streams
+pub mod Input
+pub mod Text
+pub mod Rows
+pub mod Limits
+pub mod Memory

@@ -1,0 +1,24 @@
+//! The base of the machine's programs: streams of bytes, rows of text, numbers, and what is asked of a run.
+//! A source or sink in memory tells its content, so contracts say what was read and written; one over a
+//! real stream can't know what lies behind it and tells none, but each counts its faults.
+#![tactic(auto)]
+
+mod memory;
+mod numbers;
+mod row;
+mod setup;
+mod standard;
+mod streams;
+#[cfg(test)]
+mod tests;
+mod transfer;
+
+pub use memory::{MemorySink, MemorySource};
+pub use numbers::{decimal_of, hex8_of};
+pub use row::{ROOM, Row};
+pub use setup::{MOST_BUDGET, MOST_CORES, MOST_SETS, MOST_WAYS, MachineKind, Policy, Setup, Turns};
+pub use standard::{StdSink, StdSource};
+/// The answer for want of memory.
+pub use std::alloc::AllocError as NoMemory;
+pub use streams::{Read, Sink, Source, Wrote};
+pub use transfer::{InputFault, WriteFault, put, read_input};
