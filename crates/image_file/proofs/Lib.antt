@@ -1,0 +1,3 @@
+pub mod StartLaws
+pub mod SpellingLaws
+pub mod CodeLaws

@@ -1,0 +1,33 @@
+-- How many words memory has at the start.
+use Rattle.std.proofs.Common.{◌≡◌, ℕ, ◌+◌, ◌-◌, ◌*◌, ◌/◌, ◌%◌, ◌≤◌, List, [], ◌∷◌, length, subst, arith}
+use Rattle.std.proofs.lemmas.Grind.{common_steps}
+use Rattle.image_file.specs.Value.{ImageValue, SegmentValue, IsGood, AreApart, memory_bytes, with_segment, with_segments, filled, start_memory}
+
+segment-length : (memory : List ℕ) (s : SegmentValue) → length (with_segment memory s) ≡ length memory + ((s.start / 4 - length memory) + length s.words)
+segment-length memory s = grind (arith, common_steps)
+
+segment-end : (n start words total : ℕ) → start % 4 ≡ 0 → 4 * n ≤ start → total ≡ n + ((start / 4 - n) + words) → start + 4 * words ≡ 4 * total
+segment-end n start words total m h e = omega arith
+
+segments-length : (memory : List ℕ) (words : ℕ) (ss : List SegmentValue) → AreApart (4 * length memory) (4 * words) ss → length (with_segments memory ss) ≤ words
+segments-length memory words [] h = omega arith
+segments-length memory words (s ∷ ss) h =
+    let P : ℕ → Type 0 = λ from. AreApart from (4 * words) ss in
+    segments-length (with_segment memory s) words ss
+    (subst P (segment-end (length memory) s.start (length s.words) (length (with_segment memory s)) h.0 h.1 (segment-length memory s)) h.2)
+
+filled-length : (words : ℕ) (memory : List ℕ) → length memory ≤ words → length (filled words memory) ≡ words
+filled-length words memory h = grind (arith, common_steps)
+
+bytes-words : (lines : ℕ) → 8 * lines ≡ 4 * (2 * lines)
+bytes-words lines = omega arith
+
+pub length-start_memory : (image : ImageValue) → IsGood image → length (start_memory image) ≡ 2 * image.memory_lines
+unfolding start_memory
+length-start_memory image good =
+    let P : ℕ → Type 0 = λ bytes. AreApart (4 * length image.code) bytes image.segments in
+    filled-length (2 * image.memory_lines) (with_segments image.code image.segments)
+    (segments-length image.code (2 * image.memory_lines) image.segments (subst P (bytes-words image.memory_lines) good.apart))
+
+pub bytes-start_memory : (image : ImageValue) → IsGood image → 4 * length (start_memory image) ≡ memory_bytes image
+bytes-start_memory image good = let e = length-start_memory image good in omega (arith, e)
