@@ -1,0 +1,77 @@
+//! What a run leaves: where each core ended, after how many cycles, and when that is right.
+#![tactic(auto)]
+
+ghost use Rattle.std.specs.Prelude.{◌≡◌, ◌≤◌};
+ghost use Rattle.timetable.specs.Cycles.{plain_cycles};
+
+use access_log::History;
+use image_file::Words;
+use mips_isa::{CoreState, Next, Stop};
+use std::marker::Model;
+
+/// Why a core went no further.
+#[derive(Clone, Copy, Debug, PartialEq, Eq)]
+pub enum End {
+    /// It came to a stop.
+    Stopped(Stop),
+    /// Its budget of cycles was spent before.
+    Spent,
+}
+
+impl End {
+    ghost use Rattle.timetable.specs.Outcome.{is_halt};
+
+    /// Whether the core ended at a `halt`.
+    pub fn is_halt(self) -> bool
+        ensures halt { result ≡ is_halt self }
+    {
+        matches!(self, End::Stopped(Stop::Halt))
+    }
+}
+
+/// Where a core ended.
+#[derive(Clone, Copy, Debug)]
+pub struct CoreEnd {
+    pub end: End,
+    /// The cycles that it took, with the one of its stop. A spent core took its whole budget.
+    pub cycles: u32,
+    /// The number of instructions that it executed. A stopped one isn't executed.
+    pub retired: u32,
+    /// Its state behind the last of these.
+    pub state: CoreState,
+}
+
+/// What a run leaves.
+#[derive(Drop)]
+pub struct Outcome {
+    /// The end of each core, by its number.
+    pub cores: Vec<CoreEnd>,
+    /// Memory at the end.
+    pub words: Words,
+    /// All that was done, in order.
+    pub history: History,
+}
+
+impl Model for Outcome {
+    ghost use Rattle.timetable.specs.Outcome.{OutcomeValue};
+
+    ghost Value = { OutcomeValue };
+
+    ghost view = { λ outcome. record {
+      cores = outcome.cores.items;
+      words = outcome.words;
+      items = outcome.history.items;
+    } };
+}
+
+/// The cycles that an unpipelined core takes for what it does next, on memory that answers at
+/// once: one, and for an access a second one.
+pub fn plain_cycles(next: &Next) -> u32
+    ensures cycles { result ≡ plain_cycles next.now }
+    ensures bound { result ≤ 2 }
+{
+    match next {
+        Next::Asks(_) => 2,
+        Next::Goes(_) | Next::Stops(_) => 1,
+    }
+}
