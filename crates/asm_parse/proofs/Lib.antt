@@ -1,0 +1,4 @@
+pub mod DigitsLemmas
+pub mod TablesLemmas
+pub mod TokensLemmas
+pub mod LinesLemmas
