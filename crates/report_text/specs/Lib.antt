@@ -1,0 +1,4 @@
+pub mod Report
+pub mod Counts
+pub mod Rows
+pub mod Text
