@@ -1,0 +1,111 @@
+//! The whole of a call of the program.
+ghost use Rattle.std.specs.Prelude.{◌≡◌, ◌⊎◌, ◌<◌, IsOk, IfOk, IfErr};
+ghost use Rattle.kmp_base.specs.Streams.{Rose};
+ghost use Rattle.report_text.specs.Text.{report_text};
+ghost use Rattle.kmp.specs.Words.{texts_of, words_meaning, IsRunnable};
+ghost use Rattle.kmp.specs.Refused.{word_row, refusal_row};
+ghost use Rattle.kmp.specs.Right.{IsRightReport};
+ghost use Rattle.kmp.specs.Status.{status_of, code_of};
+ghost use Rattle.kmp.specs.Outcome.{Answers, Finishes, RunsOut, Runs};
+ghost use Rattle.kmp.specs.declared.status.Status.{Status};
+ghost use Rattle.kmp.specs.declared.status.Status.TheVariants.{InputRefused, WordsRefused};
+
+use crate::load::{LoadFault, Refusal, load};
+use crate::refused;
+use crate::status::{Status, status_of};
+use crate::words::{WordFault, read_words};
+use core_run::run_serial;
+use image_file::Image;
+use kmp_base::{Setup, Sink, Source, WriteFault, put};
+use report_text::{NoMemory, Report, build_report, print_report};
+use std::alloc::Global;
+
+// Writes the row of an input's refusal.
+fn refuse<K: Sink>(refusal: Refusal, sink: &mut K) -> Status
+    ensures { Answers K.held K.faults sink.old sink.new (refusal_row refusal) InputRefused result }
+{
+    match put(sink, refused::of_input(refusal).bytes()) {
+        Ok(()) => Status::InputRefused,
+        Err(WriteFault) => Status::WriteFault,
+    }
+}
+
+// Writes the row of the words' refusal.
+fn refuse_words<K: Sink>(fault: WordFault, sink: &mut K) -> Status
+    ensures { Answers K.held K.faults sink.old sink.new (word_row fault) WordsRefused result }
+{
+    match put(sink, refused::of_words(fault).bytes()) {
+        Ok(()) => Status::WordsRefused,
+        Err(WriteFault) => Status::WriteFault,
+    }
+}
+
+// Writes a report.
+fn print<K: Sink>(report: &Report, sink: &mut K) -> Status
+    ensures { Answers K.held K.faults sink.old sink.new (report_text report.now) (status_of report.now) result }
+{
+    match print_report(report, sink) {
+        Ok(()) => status_of(report),
+        Err(WriteFault) => Status::WriteFault,
+    }
+}
+
+// The report of the run of an image.
+fn report_of(alloc: Global, setup: &Setup, image: Image) -> Result<Report, NoMemory>
+    requires runnable { IsRunnable setup.now }
+    ensures right { IfOk result (IsRightReport setup.now image) }
+{
+    let outcome = run_serial(alloc, &image, setup)?;
+    build_report(alloc, setup, image, outcome)
+}
+
+// Runs an image, and writes the report.
+fn run_image<K: Sink>(alloc: Global, setup: &Setup, image: Image, sink: &mut K) -> Status
+    requires runnable { IsRunnable setup.now }
+    ensures { Finishes K.held K.faults sink.old sink.new setup.now (Ok image) result ⊎ RunsOut sink.old sink.new result }
+{
+    match report_of(alloc, setup, image) {
+        Ok(report) => print(&report, sink),
+        Err(_) => Status::NoMemory,
+    }
+}
+
+// Reads and runs an input, and writes its report or its refusal.
+fn run<S: Source, K: Sink>(alloc: Global, setup: &Setup, source: &mut S, sink: &mut K) -> Status
+    requires runnable { IsRunnable setup.now }
+    ensures { Runs S.left S.faults K.held K.faults setup.now source.old source.new sink.old sink.new result }
+{
+    match load(alloc, source) {
+        Ok(image) => run_image(alloc, setup, image, sink),
+        Err(LoadFault::Refused(refusal)) => refuse(refusal, sink),
+        Err(LoadFault::Read) => Status::ReadFault,
+        Err(LoadFault::Memory) => Status::NoMemory,
+    }
+}
+
+/// Does all that the program does, and answers its status.
+///
+/// `words` are those of the command line without the program's name. Nothing is written before all
+/// memory was taken.
+pub fn tool<S: Source, K: Sink>(alloc: Global, words: &[&str], source: &mut S, sink: &mut K) -> u8
+    // Words without a meaning: the row of their refusal is due, and the source is untouched.
+    ensures refused { IfErr (words_meaning (texts_of words.now)) (λ fault. (source.new ≡ source.old)
+        × (status : Status) × (result ≡ code_of status)
+        × Answers K.held K.faults sink.old sink.new (word_row fault) WordsRefused status) }
+
+    // `run`: what is due for the input was written, or a read failed, or memory ran out.
+    ensures run { IfOk (words_meaning (texts_of words.now)) (λ setup. (status : Status) × (result ≡ code_of status)
+        × Runs S.left S.faults K.held K.faults setup source.old source.new sink.old sink.new status) }
+
+    // A fault has its cause, and a cause its fault. Nothing is written after a failed read or without memory.
+    ensures read_fault { result ≡ 4 → Rose (S.faults source.old) (S.faults source.new) }
+    ensures read_failed { S.faults source.old < S.faults source.new → result ≡ 4 }
+    ensures write_fault { result ≡ 5 → Rose (K.faults sink.old) (K.faults sink.new) }
+    ensures write_failed { K.faults sink.old < K.faults sink.new → result ≡ 5 }
+    ensures unwritten { (result ≡ 4) ⊎ (result ≡ 6) → sink.new ≡ sink.old }
+{
+    match read_words(words) {
+        Ok(setup) => run(alloc, &setup, source, sink).code(),
+        Err(fault) => refuse_words(fault, sink).code(),
+    }
+}
