@@ -1,4 +1,5 @@
--- What calls do to the bytes that a source has left and that a sink holds, where these are told, and when a fault may be answered.
+-- What calls do to the bytes that a source has left and that a sink holds, where these are told,
+-- and when a fault may be answered.
 use Rattle.std.specs.Prelude.{◌≡◌, ℕ, ◌+◌, ◌-◌, ◌^◌, ◌≤◌, min, List, [], ◌++◌, ⊤, Option, IfSome, Result, OnOk, OnErr}
 use Rattle.std.specs.Io.KnownBytes.{prepend_known, append_known}
 use Rattle.kmp_base.specs.declared.streams.Read.{Read}
@@ -50,7 +51,8 @@ Appended old new text = new ≡ append_known old text
 abbrev pub AppendedPart : Option (List ℕ) → Option (List ℕ) → List ℕ → Type 0
 AppendedPart old new text = (part rest : List ℕ) × (text ≡ part ++ rest) × Appended old new part
 
--- A call that was to append the text: all of it at Ok, without a fault; a front of it at Err, where the count rose.
+-- A call that was to append the text: all of it at Ok, without a fault; a front of it at Err, where
+-- the count rose.
 pub record Writes {K T E : Type 0} (held : K → Option (List ℕ)) (faults : K → ℕ) (old new : K) (result : Result T E) (text : List ℕ) : Type 0 where
   pub whole : OnOk result (Appended (held old) (held new) text)
   pub no_fault : OnOk result (faults new ≡ faults old)

@@ -1,6 +1,6 @@
-//! The base of the machine's programs: streams of bytes, rows of text, numbers, and what is asked of a run.
-//! A source or sink in memory tells its content, so contracts say what was read and written; one over a
-//! real stream can't know what lies behind it and tells none, but each counts its faults.
+//! The base of the programs: streams of bytes, rows of text, numbers, and what is asked of a run.
+//! A stream in memory tells its content, so contracts say what was read and what was written. One
+//! over a real stream can't know what lies behind it, and tells none. Each counts its faults.
 #![tactic(auto)]
 
 mod memory;

@@ -101,7 +101,8 @@ impl Source for MemorySource {
     fn read(&mut self, buf: &mut [u8]) -> Read
         requires { 0 < length buf.old }
         ensures bound { IfGot result (λ n. n ≤ length buf.new) }
-        ensures next { IfGot result (λ n. bytes_left self.old ≡ take n buf.new ++ bytes_left self.new) }
+        ensures next { IfGot result (λ n.
+            bytes_left self.old ≡ take n buf.new ++ bytes_left self.new) }
         ensures at_end { IfGot result (λ n. (n ≡ 0) ↔ (bytes_left self.old ≡ [])) }
         ensures no_fault { IfGot result (λ _. self.new.faults ≡ self.old.faults) }
         ensures same { OnReadFailed result (self.new.at ≡ self.old.at) }
@@ -143,7 +144,8 @@ impl Sink for MemorySink {
         requires { 0 < length piece.now }
         ensures least { IfTook result (λ n. 0 < n) }
         ensures bound { IfTook result (λ n. n ≤ length piece.now) }
-        ensures appended { IfTook result (λ n. self.new.held.items ≡ self.old.held.items ++ take n piece.now) }
+        ensures appended { IfTook result (λ n.
+            self.new.held.items ≡ self.old.held.items ++ take n piece.now) }
         ensures no_fault { IfTook result (λ _. self.new.faults ≡ self.old.faults) }
         ensures same { OnWriteFailed result (self.new.held.items ≡ self.old.held.items) }
         ensures cause { OnWriteFailed result (self.new.faults ≡ next_count self.old.faults) }

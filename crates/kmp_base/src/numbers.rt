@@ -7,7 +7,9 @@ use itoa::Buffer;
 /// The number below 2^64 that the text spells in decimal digits, without a sign or a leading zero.
 /// Each number has one spelling; `None` for any other text.
 pub fn decimal_of(text: &[u8]) -> Option<u64>
-    ensures value { MatchOption result ((n : ℕ) → n < 2 ^ 64 → text.now ≡ decimal n → ⊥) (λ n. text.now ≡ decimal n) }
+    ensures value { MatchOption result
+        ((n : ℕ) → n < 2 ^ 64 → text.now ≡ decimal n → ⊥)
+        (λ n. text.now ≡ decimal n) }
 {
     match std::str::from_utf8(text) {
         Ok(text) => canonical(text),
@@ -15,9 +17,11 @@ pub fn decimal_of(text: &[u8]) -> Option<u64>
     }
 }
 
-// The number whose one decimal spelling the text is. `parse` alone takes leading zeros and a plus too.
+// The number whose one decimal spelling the text is. `parse` takes leading zeros and a plus too.
 fn canonical(text: &str) -> Option<u64>
-    ensures value { MatchOption result ((n : ℕ) → n < 2 ^ 64 → text.now ≡ decimal n → ⊥) (λ n. text.now ≡ decimal n) }
+    ensures value { MatchOption result
+        ((n : ℕ) → n < 2 ^ 64 → text.now ≡ decimal n → ⊥)
+        (λ n. text.now ≡ decimal n) }
 {
     match text.parse::<u64>() {
         Ok(n) => {
@@ -31,9 +35,12 @@ fn canonical(text: &str) -> Option<u64>
     }
 }
 
-/// The number that the text spells in eight lower-case hexadecimal digits; `None` for any other text.
+/// The number that the text spells in eight lower-case hexadecimal digits; `None` for any other
+/// text.
 pub fn hex8_of(text: &[u8]) -> Option<u32>
-    ensures value { MatchOption result ((n : ℕ) → n < 2 ^ 32 → text.now ≡ hex8 n → ⊥) (λ n. text.now ≡ hex8 n) }
+    ensures value { MatchOption result
+        ((n : ℕ) → n < 2 ^ 32 → text.now ≡ hex8 n → ⊥)
+        (λ n. text.now ≡ hex8 n) }
 {
     let mut bytes = [0u8; 4];
     if hex::decode_to_slice(text, &mut bytes).is_err() {

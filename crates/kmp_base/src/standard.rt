@@ -14,8 +14,9 @@ pub struct StdSource<R: std::io::Read> {
     pub faults: u64,
 }
 
-/// A sink over any writer, which is flushed after each write. An error of a write or of a flush is a
-/// fault, and so is a write that takes no byte. After a failed flush the writer may hold the piece.
+/// A sink over any writer, which is flushed after each write. An error of a write or of a flush is
+/// a fault, and so is a write that takes no byte. After a failed flush the writer may hold what it
+/// took.
 #[derive(Drop)]
 pub struct StdSink<W: std::io::Write> {
     /// Where the bytes go to.
@@ -60,7 +61,8 @@ impl<R: std::io::Read> Source for StdSource<R> {
         ensures next { IfGot result (λ n.
             Consumes (R.remaining self.old.reader) (R.remaining self.new.reader) (take n buf.new)) }
         ensures at_end { IfGot result (λ n. n ≡ 0 → IsAtEnd (R.remaining self.new.reader)) }
-        ensures same { OnReadFailed result (Keeps (R.remaining self.old.reader) (R.remaining self.new.reader)) }
+        ensures same { OnReadFailed result
+            (Keeps (R.remaining self.old.reader) (R.remaining self.new.reader)) }
     {
         match self.reader.read(buf) {
             Ok(count) => Read::Got(count),
@@ -88,8 +90,8 @@ impl<W: std::io::Write> Sink for StdSink<W> {
         // What became of the bytes that the writer holds, where it tells them.
         ensures appended { IfTook result (λ n.
             Appends (W.contents self.old.writer) (W.contents self.new.writer) (take n piece.now)) }
-        ensures part { OnWriteFailed result ((n : ℕ)
-            × Appends (W.contents self.old.writer) (W.contents self.new.writer) (take n piece.now)) }
+        ensures part { OnWriteFailed result ((n : ℕ) ×
+            Appends (W.contents self.old.writer) (W.contents self.new.writer) (take n piece.now)) }
     {
         match self.writer.write(piece) {
             Ok(count) if count > 0 && self.writer.flush().is_ok() => Wrote::Took(count),

@@ -33,7 +33,8 @@ pub trait Source {
         requires { 0 < length buf.old }
         ensures bound { IfGot result (λ n. n ≤ length buf.new) }
         ensures next { IfGot result (λ n. Took (left self.old) (left self.new) (take n buf.new)) }
-        ensures at_end { IfGot result (λ n. IfSome (left self.old) (λ bytes. (n ≡ 0) ↔ (bytes ≡ []))) }
+        ensures at_end { IfGot result (λ n.
+            IfSome (left self.old) (λ bytes. (n ≡ 0) ↔ (bytes ≡ []))) }
         ensures no_fault { IfGot result (λ _. faults self.new ≡ faults self.old) }
         ensures same { OnReadFailed result (left self.new ≡ left self.old) }
         ensures cause { OnReadFailed result (Rose (faults self.old) (faults self.new)) }
@@ -53,7 +54,8 @@ pub trait Sink {
         requires { 0 < length piece.now }
         ensures least { IfTook result (λ n. 0 < n) }
         ensures bound { IfTook result (λ n. n ≤ length piece.now) }
-        ensures appended { IfTook result (λ n. Appended (held self.old) (held self.new) (take n piece.now)) }
+        ensures appended { IfTook result (λ n.
+            Appended (held self.old) (held self.new) (take n piece.now)) }
         ensures no_fault { IfTook result (λ _. faults self.new ≡ faults self.old) }
         ensures same { OnWriteFailed result (held self.new ≡ held self.old) }
         ensures cause { OnWriteFailed result (Rose (faults self.old) (faults self.new)) }

@@ -29,8 +29,8 @@ pub struct WriteFault;
 // The most bytes that are asked for at once.
 const CHUNK: usize = 4096;
 
-/// Reads to the end of the input. Where it has more than `limit` bytes, one byte more than `limit` is
-/// taken, and the rest stays unread.
+/// Reads to the end of the input. Where it has more than `limit` bytes, one byte more than `limit`
+/// is taken, and the rest stays unread.
 pub fn read_input<S: Source>(
     alloc: Global,
     source: &mut S,
@@ -56,8 +56,8 @@ pub fn read_input<S: Source>(
     Err(InputFault::TooLong)
 }
 
-/// Appends all the bytes, in order, by as many writes as the sink needs; without a byte it makes none.
-/// After a fault the sink holds a front of the bytes.
+/// Appends all the bytes, in order, by as many writes as the sink needs; without a byte it makes
+/// none. After a fault a front of the bytes was appended.
 pub fn put<K: Sink>(sink: &mut K, bytes: &[u8]) -> Result<(), WriteFault>
     ensures writes { Writes K.held K.faults sink.old sink.new result bytes.now }
     ensures no_call { bytes.now ≡ [] → IsOk result × (sink.new ≡ sink.old) }
