@@ -3,7 +3,7 @@ use Rattle.std.proofs.Common.{◌≡◌, ℕ, ◌+◌, ◌-◌, ◌*◌, ◌/◌
 use Rattle.std.proofs.lemmas.Grind.{common_steps}
 use Rattle.image_file.specs.Value.{ImageValue, SegmentValue, IsGood, AreApart, memory_bytes, with_segment, with_segments, filled, start_memory}
 
-segment-length : (memory : List ℕ) (s : SegmentValue) → length (with_segment memory s) ≡ length memory + ((s.start / 4 - length memory) + length s.words)
+pub segment-length : (memory : List ℕ) (s : SegmentValue) → length (with_segment memory s) ≡ length memory + ((s.start / 4 - length memory) + length s.words)
 segment-length memory s = grind (arith, common_steps)
 
 segment-end : (n start words total : ℕ) → start % 4 ≡ 0 → 4 * n ≤ start → total ≡ n + ((start / 4 - n) + words) → start + 4 * words ≡ 4 * total
@@ -16,7 +16,7 @@ segments-length memory words (s ∷ ss) h =
     segments-length (with_segment memory s) words ss
     (subst P (segment-end (length memory) s.start (length s.words) (length (with_segment memory s)) h.0 h.1 (segment-length memory s)) h.2)
 
-filled-length : (words : ℕ) (memory : List ℕ) → length memory ≤ words → length (filled words memory) ≡ words
+pub filled-length : (words : ℕ) (memory : List ℕ) → length memory ≤ words → length (filled words memory) ≡ words
 filled-length words memory h = grind (arith, common_steps)
 
 bytes-words : (lines : ℕ) → 8 * lines ≡ 4 * (2 * lines)

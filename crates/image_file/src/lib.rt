@@ -3,13 +3,23 @@
 //! A word has four bytes, the lowest first. A line of memory has two words, that is 8 bytes.
 #![tactic(auto)]
 
+mod copy;
+mod fault;
+mod field;
+pub mod laws;
 mod memory;
+mod read;
 mod spelling;
+mod write;
 
-pub use memory::start_memory;
+pub use copy::copy_image;
+pub use fault::{ImageCause, ImageFault};
+pub use memory::{start_memory, word_at};
+pub use read::read_image;
 pub use spelling::{Spelling, image_size};
 pub use std::alloc::AllocError as NoMemory;
 use std::marker::Model;
+pub use write::write_image;
 
 /// Words that memory starts with, one behind the other.
 #[derive(Drop)]

@@ -1,6 +1,6 @@
 //! The memory that a program starts with.
-ghost use Rattle.std.specs.Prelude.{◌≡◌, ◌*◌, ◌/◌, ◌≤◌, length, vec_len, IfOk, OnOk};
-ghost use Rattle.image_file.specs.Value.{with_segment, with_segments, filled, start_memory, AreApart, IsGood};
+ghost use Rattle.std.specs.Prelude.{◌≡◌, ◌+◌, ◌-◌, ◌*◌, ◌/◌, ◌%◌, ◌<◌, ◌≤◌, ◌⊎◌, length, vec_len, slice_index, IfOk, IfSome, IfNone, OnOk};
+ghost use Rattle.image_file.specs.Value.{with_segment, with_segments, filled, start_memory, memory_bytes, AreApart, IsGood};
 
 use crate::{Image, NoMemory, Segment, Words};
 use std::alloc::Global;
@@ -42,4 +42,33 @@ pub fn start_memory(alloc: Global, image: &Image) -> Result<Words, NoMemory>
         2 * image.memory_lines as usize,
     )?;
     Ok(Words { words: memory })
+}
+
+/// The word of a segment at a byte address, where it has one.
+fn word_of(segment: &Segment, addr: u32) -> Option<u32>
+    ensures some { IfSome result (λ word. (segment.now.start ≤ addr)
+        × (addr < segment.now.start + 4 * length segment.now.words)
+        × (word ≡ slice_index segment.now.words ((addr - segment.now.start) / 4))) }
+    ensures none { IfNone result ((addr < segment.now.start)
+        ⊎ (segment.now.start + 4 * length segment.now.words ≤ addr)) }
+{
+    let offset = addr.checked_sub(segment.start)?;
+    segment.words.get((offset / 4) as usize).copied()
+}
+
+/// The word that memory starts with at a byte address. It takes no memory.
+pub fn word_at(image: &Image, addr: u32) -> u32
+    requires aligned { addr % 4 ≡ 0 }
+    requires within { addr < memory_bytes image.now }
+    ensures value { result ≡ slice_index (start_memory image.now) (addr / 4) }
+{
+    if let Some(word) = image.code.get((addr / 4) as usize) {
+        return *word;
+    }
+    for segment in &image.segments {
+        if let Some(word) = word_of(segment, addr) {
+            return word;
+        }
+    }
+    0
 }

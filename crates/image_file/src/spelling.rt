@@ -1,12 +1,12 @@
 //! The one spelling of an image.
 ghost use Rattle.std.specs.Prelude.{◌≡◌, [], ◌∷◌, ◌^◌, ◌<◌, length, sum_by, IfSome, IfNone};
-ghost use Rattle.image_file.specs.Value.{segment_size, image_numbers, image_bytes};
+ghost use Rattle.image_file.specs.Value.{segment_size, image_numbers, image_bytes, IsGood};
 
 use crate::{Image, Segment};
 use std::marker::Model;
 
 /// The bytes `KMP1` as a number, the lowest first.
-const MAGIC: u32 = 0x31504d4b;
+pub const MAGIC: u32 = 0x31504d4b;
 
 /// How many numbers spell the segments.
 fn segments_size(segments: &[Segment]) -> usize
@@ -54,6 +54,7 @@ impl<'a> Spelling<'a> {
     #[tactic(auto, using(crate::proofs::SpellingLaws::bytes_of_image, crate::proofs::SpellingLaws::few_segments))]
     pub fn new(image: &'a Image) -> Self
         ensures numbers { result ≡ image_numbers image.now }
+        ensures good { IsGood image.now }
     {
         Spelling {
             fields: [
