@@ -1,0 +1,38 @@
+-- Readings that may fail, and what a function that runs out of memory may answer.
+use Rattle.std.specs.Prelude.{◌≡◌, ℕ, Result, Ok, Err}
+use Rattle.asm_token.specs.declared.fault.AsmCause.{AsmCause}
+use Rattle.asm_token.specs.declared.fault.AsmFault.{AsmFault}
+use Rattle.asm_token.specs.declared.fault.AsmFault.TheVariants as errors
+use Rattle.asm_token.specs.declared.fault.LineFault.{LineFault}
+use Rattle.asm_token.specs.declared.fault.LineFault.TheVariants as faults
+
+infixl 10 ◌>>=◌
+-- the first fault answers
+abbrev pub ◌>>=◌ : {A B E : Type 0} → Result A E → (A → Result B E) → Result B E
+(Ok x) >>= f = f x
+(Err e) >>= f = Err e
+
+-- what is wrong with a line, and the line's number
+abbrev pub at_line : {A : Type 0} → ℕ → Result A AsmCause → Result A (AsmCause × ℕ)
+at_line line (Ok x) = Ok x
+at_line line (Err cause) = Err (cause, line)
+
+-- A function fails as the reading does, unless memory ran out.
+abbrev pub Fails : {Y : Type 0} → LineFault → Result Y AsmCause → Type 0
+Fails faults.Memory reading = Unit {0}
+Fails (faults.Cause cause) reading = reading ≡ Err cause
+
+-- the same of a whole text, with the line at fault
+abbrev pub FailsAt : {Y : Type 0} → AsmFault → Result Y (AsmCause × ℕ) → Type 0
+FailsAt errors.Memory reading = Unit {0}
+FailsAt (errors.At cause line) reading = reading ≡ Err (cause, line)
+
+-- What a function returned, seen by view, is what the reading gives, unless memory ran out.
+abbrev pub Gives : {X Y : Type 0} → (X → Y) → Result X LineFault → Result Y AsmCause → Type 0
+Gives view (Ok x) reading = reading ≡ Ok (view x)
+Gives view (Err fault) reading = Fails fault reading
+
+-- the same of a whole text
+abbrev pub Answers : {X Y : Type 0} → (X → Y) → Result X AsmFault → Result Y (AsmCause × ℕ) → Type 0
+Answers view (Ok x) reading = reading ≡ Ok (view x)
+Answers view (Err fault) reading = FailsAt fault reading

@@ -1,0 +1,17 @@
+//! The tokens of an assembler source's lines, and what can be wrong with a source.
+#![tactic(auto)]
+
+mod bytes;
+mod digits;
+mod fault;
+mod name;
+mod number;
+#[cfg(test)]
+mod tests;
+mod token;
+
+pub use fault::{AsmCause, AsmFault, LineFault};
+pub use name::Name;
+pub use number::Number;
+pub use std::alloc::AllocError as NoMemory;
+pub use token::{Token, tokens_of};
