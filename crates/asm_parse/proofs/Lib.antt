@@ -1,4 +1,6 @@
-pub mod DigitsLemmas
-pub mod TablesLemmas
-pub mod TokensLemmas
 pub mod LinesLemmas
+pub mod OrderLemmas
+pub mod ReadingLemmas
+pub mod SizeLemmas
+pub mod TablesLemmas
+pub mod WordsLemmas

@@ -1,16 +1,16 @@
 -- The first line of a text, and statements that are read line by line.
-use Rattle.std.proofs.Common.{◌≡◌, ℕ, ◌+◌, ◌<◌, Bool, true, false, List, [], ◌∷◌, ◌++◌, length, map, take, drop, Result, Ok, Err, refl, sym, ap, ◌∙◌, append_assoc, arith, one-add}
+use Rattle.std.proofs.Common.{◌≡◌, ℕ, ◌+◌, ◌<◌, Bool, true, false, List, [], ◌∷◌, ◌++◌, length, map, take, drop, Result, Ok, Err, refl, sym, ap, ◌∙◌, arith, one-add}
 use Rattle.std.specs.List.{prefix_len, enumerate_from}
 use Rattle.std.proofs.lemmas.List.{append-nil}
-use Rattle.std.proofs.lemmas.Grind.{common_steps}
-use Rattle.asm_parse.specs.declared.fault.AsmCause.{AsmCause}
-use Rattle.asm_parse.specs.declared.fault.AsmFault.{AsmFault}
-use Rattle.asm_parse.specs.declared.fault.AsmFault.TheVariants as errors
+use Rattle.asm_token.specs.declared.fault.AsmCause.{AsmCause}
+use Rattle.asm_token.specs.declared.fault.AsmFault.{AsmFault}
+use Rattle.asm_token.specs.declared.fault.AsmFault.TheVariants as errors
+use Rattle.asm_token.specs.Faults.{at_line, FailsAt}
 use Rattle.asm_parse.specs.declared.statement.Body.{Body}
+use Rattle.asm_parse.specs.declared.statement.Part.{Part}
 use Rattle.asm_parse.specs.declared.statement.Statement.{Statement}
-use Rattle.asm_parse.specs.Bytes.{is_within_line}
-use Rattle.asm_parse.specs.Faults.{◌>>=◌, at_line, FailsAt}
-use Rattle.asm_parse.specs.Lines.{lines_of, on_line, line_behind, statements_behind}
+use Rattle.asm_parse.specs.Lines.{is_within_line, lines_of, on_line, line_of, statements_from}
+use Rattle.asm_parse.proofs.WordsLemmas.{with_front, regroup}
 
 -- a text splits at its first line feed, which stands behind n bytes
 abbrev pub Splits : List ℕ → ℕ → Type 0
@@ -30,33 +30,24 @@ unfolding lines_of
 splits [] = (λ some none. absurd (omega arith), λ b rest cells. absurd cc)
 splits (b ∷ bytes) = splits_step b bytes (splits bytes) (is_within_line b) refl
 
--- what was read before, and what is still read
-abbrev pub with_front : List Statement → Result (List Statement) (AsmCause × ℕ) → Result (List Statement) (AsmCause × ℕ)
-with_front front read = read >>= λ others. Ok (front ++ others)
+-- the statements of a text behind others, whose first line has a number and stands in a part
+abbrev pub read_behind : List Statement → ℕ → Part → List (List ℕ) → Result (List Statement) (AsmCause × ℕ)
+read_behind front number part lines = with_front front (statements_from part (enumerate_from number lines))
 
-regroup : (front here : List Statement) (read : Result (List Statement) (AsmCause × ℕ)) → with_front front (read >>= λ others. Ok (here ++ others)) ≡ with_front (front ++ here) read
-regroup front here (Ok others) = ap Ok (sym (append_assoc front here others))
-regroup front here (Err e) = refl
+pub line_goes_on : (front : List Statement) (number : ℕ) (part : Part) (line : List ℕ) (lines : List (List ℕ)) (here : List Body) (behind : Part) → line_of part line ≡ Ok (here, behind)
+    → read_behind front number part (line ∷ lines) ≡ read_behind (front ++ map (on_line number) here) (number + 1) behind lines
+unfolding statements_from
+line_goes_on front number part line lines here behind read =
+    rw read (regroup front (map (on_line number) here) (statements_from behind (enumerate_from (number + 1) lines)))
 
--- the statements of a text behind others, whose first line has a number
-abbrev pub read_behind : List Statement → ℕ → List (List ℕ) → Result (List Statement) (AsmCause × ℕ)
-read_behind front number lines = with_front front (statements_behind (length front) (enumerate_from number lines))
-
-pub line_goes_on : (front : List Statement) (number : ℕ) (line : List ℕ) (lines : List (List ℕ)) (here : List Body) → line_behind (length front) line ≡ Ok here
-    → read_behind front number (line ∷ lines) ≡ read_behind (front ++ map (on_line number) here) (number + 1) lines
-unfolding statements_behind
-line_goes_on front number line lines here read =
-    let size : length (front ++ map (on_line number) here) ≡ length front + length here = grind (arith, common_steps) in
-    rw (read, size) (regroup front (map (on_line number) here) (statements_behind (length front + length here) (enumerate_from (number + 1) lines)))
-
-pub line_ends : (fault : AsmFault) (front : List Statement) (number : ℕ) (line : List ℕ) (lines : List (List ℕ)) (total : Result (List Statement) (AsmCause × ℕ)) → FailsAt fault (at_line number (line_behind (length front) line))
-    → read_behind front number (line ∷ lines) ≡ total → FailsAt fault total
-unfolding statements_behind
-line_ends errors.Memory front number line lines total fails so_far = tt
-line_ends (errors.At cause at) front number line lines total fails so_far =
-    let now : read_behind front number (line ∷ lines) ≡ Err (cause, at) = rw fails refl in
+pub line_ends : (fault : AsmFault) (front : List Statement) (number : ℕ) (part : Part) (line : List ℕ) (lines : List (List ℕ)) (total : Result (List Statement) (AsmCause × ℕ)) → FailsAt fault (at_line number (line_of part line))
+    → read_behind front number part (line ∷ lines) ≡ total → FailsAt fault total
+unfolding statements_from
+line_ends errors.Memory front number part line lines total fails so_far = tt
+line_ends (errors.At cause at) front number part line lines total fails so_far =
+    let now : read_behind front number part (line ∷ lines) ≡ Err (cause, at) = rw fails refl in
     sym so_far ∙ now
 
-pub lines_done : (front : List Statement) (number : ℕ) (total : Result (List Statement) (AsmCause × ℕ)) → read_behind front number [] ≡ total → total ≡ Ok front
-unfolding statements_behind
-lines_done front number total so_far = sym so_far ∙ ap Ok (append-nil front)
+pub lines_done : (front : List Statement) (number : ℕ) (part : Part) (total : Result (List Statement) (AsmCause × ℕ)) → read_behind front number part [] ≡ total → total ≡ Ok front
+unfolding statements_from
+lines_done front number part total so_far = sym so_far ∙ ap Ok (append-nil front)

@@ -1,9 +1,7 @@
 pub mod Bounds
-pub mod Bytes
-pub mod Faults
 pub mod Forms
 pub mod Lines
 pub mod Operands
 pub mod Registers
+pub mod Statements
 pub mod Tables
-pub mod Tokens

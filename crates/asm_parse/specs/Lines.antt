@@ -1,54 +1,55 @@
 -- Lines and their statements.
-use Rattle.std.specs.Prelude.{ℕ, ◌+◌, ◌%◌, ◌^◌, nat_le, if◌then◌else◌, List, [], ◌∷◌, ◌++◌, length, map, Result, Ok, Err, All}
+use Rattle.std.specs.Prelude.{ℕ, not, Bool, if◌then◌else◌, List, [], ◌∷◌, ◌++◌, map, Result, Ok, Err, codes}
 use Rattle.std.specs.List.{enumerate_from}
+use Rattle.std.specs.List.Sorted.{IsNonDecreasingBy}
 use Rattle.std.specs.Option.{ok_or}
-use Rattle.mips_isa.specs.declared.Instr.TheVariants as instrs
-use Rattle.mips_isa.specs.Words.{IsProper}
-use Rattle.asm_parse.specs.declared.fault.AsmCause.{AsmCause}
-use Rattle.asm_parse.specs.declared.fault.AsmCause.TheVariants.{NotBuilt}
-use Rattle.asm_parse.specs.declared.token.Token.{Token}
-use Rattle.asm_parse.specs.declared.token.Token.TheVariants as tokens
+use Rattle.asm_token.specs.declared.fault.AsmCause.{AsmCause}
+use Rattle.asm_token.specs.declared.fault.AsmCause.TheVariants.{UnknownName, BadOperand}
+use Rattle.asm_token.specs.declared.token.Token.{Token}
+use Rattle.asm_token.specs.declared.token.Token.TheVariants as tokens
+use Rattle.asm_token.specs.Bytes.{is_one_of}
+use Rattle.asm_token.specs.Faults.{◌>>=◌, at_line}
+use Rattle.asm_token.specs.Tokens.{tokens_of}
 use Rattle.asm_parse.specs.declared.forms.Form.{Form}
-use Rattle.asm_parse.specs.declared.forms.Form.TheVariants.{Signed, BranchTwo, Lw, Sw, Halt}
-use Rattle.asm_parse.specs.declared.operands.Operands.{Operands}
-use Rattle.asm_parse.specs.declared.source.TheConstants.{MOST_STATEMENTS}
 use Rattle.asm_parse.specs.declared.statement.Body.{Body}
-use Rattle.asm_parse.specs.declared.statement.Body.TheVariants.{Plain}
+use Rattle.asm_parse.specs.declared.statement.Body.TheVariants.{Label}
+use Rattle.asm_parse.specs.declared.statement.Part.{Part}
+use Rattle.asm_parse.specs.declared.statement.Part.TheVariants as parts
 use Rattle.asm_parse.specs.declared.statement.Statement.{Statement}
-use Rattle.asm_parse.specs.Bytes.{is_within_line}
-use Rattle.asm_parse.specs.Faults.{◌>>=◌, at_line}
-use Rattle.asm_parse.specs.Forms.{form_of, kinds_of}
-use Rattle.asm_parse.specs.Operands.{operands_in}
-use Rattle.asm_parse.specs.Tokens.{tokens_of}
+use Rattle.asm_parse.specs.Forms.{form_of, stands_in, part_behind}
+use Rattle.asm_parse.specs.Statements.{statement_in}
 
--- the low sixteen bits of a number
-abbrev pub immediate : Operands → ℕ
-immediate operands = operands.value % 2 ^ 16
+-- The labels at the front of a line, each a name and a colon.
+abbrev pub labels_in : List Token → List (List ℕ)
+labels_in (tokens.Name label ∷ tokens.Colon ∷ rest) = label ∷ labels_in rest
+labels_in other = []
 
--- What a statement is, by its operands.
-unfoldable pub bodies_of : Form → Operands → List Body
-bodies_of (Signed op) o = Plain (instrs.AluImm op o.rt o.rs (immediate o)) ∷ []
-bodies_of Lw o = Plain (instrs.Lw o.rt o.rs (immediate o)) ∷ []
-bodies_of Sw o = Plain (instrs.Sw o.rt o.rs (immediate o)) ∷ []
-bodies_of (BranchTwo differ) o = Plain (instrs.BranchTwo differ o.rs o.rt (immediate o)) ∷ []
-bodies_of Halt o = Plain instrs.Halt ∷ []
+-- what stands behind the labels
+abbrev pub behind_labels : List Token → List Token
+behind_labels (tokens.Name label ∷ tokens.Colon ∷ rest) = behind_labels rest
+behind_labels other = other
 
--- A line has no token, or a statement's name and its operands.
-unfoldable pub statement_in : List Token → Result (List Body) AsmCause
-statement_in [] = Ok []
-statement_in (tokens.Name name ∷ ts) = do
-  form ← ok_or (form_of name) NotBuilt
-  operands ← operands_in (kinds_of form) ts
-  Ok (bodies_of form operands)
-statement_in other = Err NotBuilt
+-- the statement of a form in the part in force, and the part that is in force behind it
+unfoldable pub form_in : Part → Form → List Token → Result (List Body × Part) AsmCause
+form_in part form ts =
+    if stands_in form part then (statement_in form ts >>= λ bodies. Ok (bodies, part_behind form part)) else Err BadOperand
 
--- a line is judged by its tokens first
-abbrev pub line_of : List ℕ → Result (List Body) AsmCause
-line_of line = tokens_of line >>= statement_in
+-- Nothing stands behind the labels, or a statement's name and its operands.
+unfoldable pub named_in : Part → List Token → Result (List Body × Part) AsmCause
+named_in part [] = Ok ([], part)
+named_in part (tokens.Name name ∷ ts) = ok_or (form_of name) UnknownName >>= λ form. form_in part form ts
+named_in part other = Err BadOperand
 
--- a line behind so many statements, which leaves them within the most that there may be
-unfoldable pub line_behind : ℕ → List ℕ → Result (List Body) AsmCause
-line_behind count line = line_of line >>= λ bodies. if nat_le (count + length bodies) MOST_STATEMENTS then Ok bodies else Err NotBuilt
+-- A line is judged by its tokens, the name behind the labels, the part in force, and the operands, in this order.
+unfoldable pub line_of : Part → List ℕ → Result (List Body × Part) AsmCause
+line_of part line = do
+  ts ← tokens_of line
+  named ← named_in part (behind_labels ts)
+  Ok (map Label (labels_in ts) ++ named.0, named.1)
+
+-- any byte but a line feed
+abbrev pub is_within_line : ℕ → Bool
+is_within_line b = not (is_one_of (codes "\n") b)
 
 -- one more byte in front of the first line
 abbrev pub with_byte : ℕ → List (List ℕ) → List (List ℕ)
@@ -64,22 +65,18 @@ lines_of (b ∷ bytes) = if is_within_line b then with_byte b (lines_of bytes) e
 abbrev pub on_line : ℕ → Body → Statement
 on_line line body = record { line = line; body = body }
 
--- The statements of lines with their numbers, behind so many statements. The first faulty line answers.
-unfoldable pub statements_behind : ℕ → List (ℕ × List ℕ) → Result (List Statement) (AsmCause × ℕ)
-statements_behind count [] = Ok []
-statements_behind count (line ∷ lines) = do
-  here ← at_line line.0 (line_behind count line.1)
-  others ← statements_behind (count + length here) lines
-  Ok (map (on_line line.0) here ++ others)
+-- The statements of lines with their numbers, the first line in a part. The first faulty line answers.
+unfoldable pub statements_from : Part → List (ℕ × List ℕ) → Result (List Statement) (AsmCause × ℕ)
+statements_from part [] = Ok []
+statements_from part (line ∷ lines) = do
+  here ← at_line line.0 (line_of part line.1)
+  others ← statements_from here.1 lines
+  Ok (map (on_line line.0) here.0 ++ others)
 
--- The statements of a text, whose lines are numbered from 1.
+-- The statements of a text, whose lines are numbered from 1. The text part is in force at its start.
 abbrev pub statements_of : List ℕ → Result (List Statement) (AsmCause × ℕ)
-statements_of text = statements_behind 0 (enumerate_from 1 (lines_of text))
+statements_of text = statements_from parts.Text (enumerate_from 1 (lines_of text))
 
--- the instruction has a word
-abbrev pub IsProperBody : Body → Type 0
-IsProperBody (Plain instr) = IsProper instr
-
--- Each statement's instruction is proper.
-abbrev pub AreProper : List Statement → Type 0
-AreProper statements = All (λ statement. IsProperBody statement.body) statements
+-- No statement has a lower line than one before it.
+abbrev pub AreRising : List Statement → Type 0
+AreRising statements = IsNonDecreasingBy (λ statement. statement.line) statements

@@ -1,13 +1,10 @@
 //! The statements of an assembler source.
 #![tactic(auto)]
 
+mod bodies;
 mod bounds;
-mod bytes;
-mod digits;
-mod fault;
 mod forms;
 mod lines;
-mod name;
 mod operands;
 mod registers;
 mod source;
@@ -15,8 +12,7 @@ mod statement;
 mod table;
 #[cfg(test)]
 mod tests;
-mod token;
 
-pub use fault::{AsmCause, AsmFault};
-pub use source::{MOST_STATEMENTS, parse};
-pub use statement::{Body, Statement};
+pub use asm_token::{AsmCause, AsmFault};
+pub use source::parse;
+pub use statement::{Body, Part, Statement, Value};

@@ -1,84 +1,80 @@
 //! Lines and their statements.
-ghost use Rattle.std.specs.Prelude.{◌≡◌, ◌+◌, ◌^◌, ◌%◌, ◌≤◌, ◌∷◌, [], length, vec_len, IfOk, All};
-ghost use Rattle.asm_parse.specs.Faults.{Gives};
-ghost use Rattle.asm_parse.specs.Operands.{AreRegisters};
-ghost use Rattle.asm_parse.specs.Lines.{bodies_of, statement_in, line_of, line_behind, IsProperBody};
+ghost use Rattle.std.specs.Prelude.{◌≡◌, ◌++◌, map, OnOk, IfOk, IfErr, All};
+ghost use Rattle.asm_token.specs.Faults.{Gives};
+ghost use Rattle.asm_parse.specs.Lines.{labels_in, behind_labels, form_in, named_in, line_of};
+ghost use Rattle.asm_parse.specs.Statements.{IsProperBody};
 
-use crate::fault::{LineFault, NOT_BUILT};
+use crate::bodies::statement_in;
 use crate::forms::{Form, form_of};
-use crate::operands::{Operands, operands_in};
-use crate::source::MOST_STATEMENTS;
-use crate::statement::Body;
-use crate::token::{Token, tokens_of};
-use mips_isa::Instr;
+use crate::operands::{BAD_OPERAND, UNKNOWN_NAME};
+use crate::statement::{Body, Part};
+use asm_token::{LineFault, Token, tokens_of};
 use std::alloc::Global;
 
-/// The statements of a form, by its operands.
-#[tactic(auto, unfolding(crate::specs::Lines::bodies_of))]
-fn bodies_of(alloc: Global, form: Form, operands: Operands) -> Result<Vec<Body>, LineFault>
-    requires { AreRegisters operands }
-    ensures value { Gives (λ v. v.items) result (Ok (bodies_of form operands)) }
-    ensures proper { IfOk result (λ v. All IsProperBody v.items) }
+/// Puts the labels at the front behind `bodies`, and gives the tokens behind them.
+fn take_labels<'a>(
+    alloc: Global,
+    bodies: &mut Vec<Body>,
+    tokens: &'a [Token],
+) -> Result<&'a [Token], LineFault>
+    requires proper { All IsProperBody bodies.old.items }
+    ensures labels { OnOk result (bodies.new.items ≡ bodies.old.items ++ map Body.Label (labels_in tokens.now)) }
+    ensures proper { OnOk result (All IsProperBody bodies.new.items) }
+    ensures rest { IfOk result (λ rest. rest.now ≡ behind_labels tokens.now) }
+    ensures err { IfErr result (λ fault. fault ≡ LineFault.Memory) }
 {
-    let Operands { rs, rt, value } = operands;
-    let imm = (value % 65536) as u16;
-    let instr = match form {
-        Form::Signed(op) => Instr::AluImm { op, rt, rs, imm },
-        Form::Lw => Instr::Lw { rt, rs, imm },
-        Form::Sw => Instr::Sw { rt, rs, imm },
-        Form::BranchTwo(differ) => Instr::BranchTwo {
-            differ,
-            rs,
-            rt,
-            imm,
-        },
-        Form::Halt => Instr::Halt,
-    };
-    let mut bodies = Vec::new(alloc);
-    bodies.push(Body::Plain(instr))?;
-    Ok(bodies)
+    let mut rest = tokens;
+    'labels: while let [Token::Name(label), Token::Colon, behind @ ..] = rest {
+        bodies.push(Body::Label(label.copy(alloc)?))?;
+        rest = behind;
+    }
+    Ok(rest)
 }
 
-/// What the tokens of a line are.
-#[tactic(auto, unfolding(crate::specs::Lines::statement_in))]
-fn statement_in(alloc: Global, tokens: &[Token]) -> Result<Vec<Body>, LineFault>
-    ensures value { Gives (λ v. v.items) result (statement_in tokens.now) }
-    ensures proper { IfOk result (λ v. All IsProperBody v.items) }
+/// The statement of a form in the part in force, and the part that is in force behind it.
+#[tactic(auto, unfolding(crate::specs::Lines::form_in))]
+fn form_in(
+    alloc: Global,
+    part: Part,
+    form: Form,
+    tokens: &[Token],
+) -> Result<(Vec<Body>, Part), LineFault>
+    ensures value { Gives (λ x. (x.0.items, x.1)) result (form_in part form tokens.now) }
+    ensures proper { IfOk result (λ x. All IsProperBody x.0.items) }
+{
+    if !form.stands_in(part) {
+        return Err(BAD_OPERAND);
+    }
+    let bodies = statement_in(alloc, form, tokens)?;
+    Ok((bodies, form.part_behind(part)))
+}
+
+/// What stands behind the labels.
+#[tactic(auto, unfolding(crate::specs::Lines::named_in))]
+fn named_in(alloc: Global, part: Part, tokens: &[Token]) -> Result<(Vec<Body>, Part), LineFault>
+    ensures value { Gives (λ x. (x.0.items, x.1)) result (named_in part tokens.now) }
+    ensures proper { IfOk result (λ x. All IsProperBody x.0.items) }
 {
     match tokens {
-        [] => Ok(Vec::new(alloc)),
+        [] => Ok((Vec::new(alloc), part)),
         [Token::Name(name), rest @ ..] => match form_of(name.as_slice()) {
-            Some(form) => {
-                let operands = operands_in(form.kinds(), rest)?;
-                bodies_of(alloc, form, operands)
-            }
-            None => Err(NOT_BUILT),
+            Some(form) => form_in(alloc, part, form, rest),
+            None => Err(UNKNOWN_NAME),
         },
-        _ => Err(NOT_BUILT),
+        _ => Err(BAD_OPERAND),
     }
 }
 
-/// What a line holds.
-fn line_of(alloc: Global, line: &[u8]) -> Result<Vec<Body>, LineFault>
-    ensures value { Gives (λ v. v.items) result (line_of line.now) }
-    ensures proper { IfOk result (λ v. All IsProperBody v.items) }
+/// What a line holds in the part in force, and the part that is in force behind it.
+#[tactic(auto, unfolding(crate::specs::Lines::line_of))]
+pub fn line_of(alloc: Global, part: Part, line: &[u8]) -> Result<(Vec<Body>, Part), LineFault>
+    ensures value { Gives (λ x. (x.0.items, x.1)) result (line_of part line.now) }
+    ensures proper { IfOk result (λ x. All IsProperBody x.0.items) }
 {
     let tokens = tokens_of(alloc, line)?;
-    statement_in(alloc, &tokens)
-}
-
-/// What a line behind so many statements holds.
-#[tactic(auto, unfolding(crate::specs::Lines::line_behind))]
-pub fn line_behind(alloc: Global, count: usize, line: &[u8]) -> Result<Vec<Body>, LineFault>
-    requires { count ≤ MOST_STATEMENTS }
-    ensures value { Gives (λ v. v.items) result (line_behind count line.now) }
-    ensures few { IfOk result (λ v. count + vec_len v ≤ MOST_STATEMENTS) }
-    ensures proper { IfOk result (λ v. All IsProperBody v.items) }
-{
-    let bodies = line_of(alloc, line)?;
-    if bodies.len() <= MOST_STATEMENTS - count {
-        Ok(bodies)
-    } else {
-        Err(NOT_BUILT)
-    }
+    let mut bodies = Vec::new(alloc);
+    let rest = take_labels(alloc, &mut bodies, &tokens)?;
+    let (mut named, behind) = named_in(alloc, part, rest)?;
+    bodies.append(&mut named)?;
+    Ok((bodies, behind))
 }
