@@ -1,0 +1,5 @@
+pub mod SplitLemmas
+pub mod PlacesLemmas
+pub mod LabelsLemmas
+pub mod PassesLemmas
+pub mod RoomLaws

@@ -1,0 +1,16 @@
+//! Where the statements of an assembler source stand in memory, and what is wrong with them as a whole.
+//!
+//! All addresses and sizes are in bytes.
+#![tactic(auto)]
+
+mod labels;
+mod layout;
+mod operands;
+mod place;
+mod room;
+#[cfg(test)]
+mod tests;
+
+pub use labels::{Labels, address_of};
+pub use layout::{MOST_STATEMENTS, lay_out};
+pub use place::{Place, code_size};
