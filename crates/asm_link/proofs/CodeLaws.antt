@@ -1,20 +1,23 @@
--- The code of statements: its words, and how many there are.
-use Rattle.std.proofs.Common.{◌≡◌, ℕ, ◌+◌, ◌*◌, ◌%◌, ◌^◌, ◌<◌, ◌≤◌, List, [], ◌∷◌, length, replicate, refl, arith}
+-- The code of statements: what its words spell, and how many there are.
+use Rattle.std.proofs.Common.{◌≡◌, ℕ, ◌+◌, ◌*◌, ◌/◌, ◌%◌, ◌^◌, ◌<◌, List, [], ◌∷◌, ◌++◌, length, map, replicate, refl, arith, length-append}
 use Rattle.std.specs.Prelude.{All, IsSome}
 use Rattle.std.proofs.lemmas.Grind.{common_steps}
 use Rattle.std.proofs.lemmas.List.Elements.{All-append, All-cons, All-nil, All-head, All-tail, All-replicate}
+use Rattle.std.proofs.lemmas.List.Sums.{sum_by-cons}
 use Rattle.mips_isa.specs.Fields.{instr_of, special_of}
 use Rattle.mips_isa.specs.Words.{IsProper, word_of}
 use Rattle.mips_isa.specs.Steps.{IsCode}
 use Rattle.mips_isa.specs.declared.Instr.{Instr}
+use Rattle.mips_isa.specs.declared.Instr.TheVariants as instrs
+use Rattle.mips_isa.specs.declared.ImmOp.TheVariants.{Ori}
 use Rattle.mips_isa.proofs.FieldsOf.{instr_of-word_of}
-use Rattle.image_file.specs.Value.{IsGood}
-use Rattle.image_file.proofs.SpellingLaws.{bytes_of_image}
 use Rattle.asm_parse.specs.declared.statement.Body.{Body}
-use Rattle.asm_parse.specs.declared.statement.Body.TheVariants.{Plain}
+use Rattle.asm_parse.specs.declared.statement.Body.TheVariants as bodies
 use Rattle.asm_parse.specs.declared.statement.Statement.{Statement}
-use Rattle.asm_parse.specs.Lines.{IsProperBody, AreProper}
-use Rattle.asm_link.specs.Assembly.{words_of, code_words, padded}
+use Rattle.asm_parse.specs.Statements.{IsProperBody, IsBranch, AreProper, upper_half, lower_half}
+use Rattle.asm_layout.specs.Places.{code_size, code_behind, code_end}
+use Rattle.asm_layout.specs.Labels.{Addresses}
+use Rattle.asm_link.specs.Assembly.{address_of, word_in, distance, branch_by, load_of, instrs_of, code_from, padded}
 
 -- a word that spells an instruction
 abbrev IsWord : ℕ → Type 0
@@ -23,47 +26,64 @@ IsWord word = IsSome (instr_of word)
 spelled : (instr : Instr) → IsProper instr → IsWord (word_of instr)
 spelled instr proper = rw (instr_of-word_of instr proper) refl
 
+spelled_alone : (instr : Instr) → IsProper instr → All IsWord (map word_of (instr ∷ []))
+spelled_alone instr proper = All-cons IsWord (word_of instr) [] (spelled instr proper) (All-nil IsWord)
+
 nop_spelled : IsWord 0
 unfolding instr_of special_of
 nop_spelled = refl
 
-words_spelled : (body : Body) → IsProperBody body → All IsWord (words_of body)
-words_spelled (Plain instr) proper = All-cons IsWord (word_of instr) [] (spelled instr proper) (All-nil IsWord)
+branch_proper : (imm : ℕ) (instr : Instr) → imm < 2 ^ 16 → IsProper instr → IsBranch instr → IsProper (branch_by imm instr)
+branch_proper imm (instrs.BranchTwo differ rs rt other) below proper branch = (proper.0, proper.1, below)
+branch_proper imm (instrs.BranchZero op rs other) below proper branch = (proper.0, below)
+branch_proper imm other below proper branch = elim branch [ ]
 
-code_spelled : (statements : List Statement) → AreProper statements → IsCode (code_words statements)
-code_spelled [] proper = All-nil IsWord
-code_spelled (s ∷ statements) proper =
+load_spelled : (rt word : ℕ) → rt < 32 → All IsWord (map word_of (load_of rt word))
+load_spelled rt word below =
+    let lui = instrs.Lui rt (upper_half word) in
+    let ori = instrs.AluImm Ori rt rt (lower_half word) in
+    All-cons IsWord (word_of lui) (word_of ori ∷ []) (spelled lui (below, omega arith)) (spelled_alone ori (below, below, omega arith))
+
+instrs_spelled : (known : Addresses) (here : ℕ) (body : Body) → IsProperBody body → All IsWord (map word_of (instrs_of known here body))
+instrs_spelled known here (bodies.Plain instr) proper = spelled_alone instr proper
+instrs_spelled known here (bodies.BranchTo instr name) proper =
+    let imm = distance here (address_of known name) in
+    spelled_alone (branch_by imm instr) (branch_proper imm instr (omega arith) proper.0 proper.1)
+instrs_spelled known here (bodies.JumpTo link name) proper =
+    spelled_alone (instrs.Jump link (address_of known name / 4 % 2 ^ 26)) (omega arith)
+instrs_spelled known here (bodies.Load rt value) proper = load_spelled rt (word_in known value) proper
+instrs_spelled known here other proper = All-nil IsWord
+
+pub code_spelled : (known : Addresses) (before ss : List Statement) → AreProper ss → IsCode (code_from known before ss)
+unfolding code_from
+code_spelled known before [] proper = All-nil IsWord
+code_spelled known before (s ∷ ss) proper =
     let P : Statement → Type 0 = λ t. IsProperBody t.body in
-    All-append IsWord (words_of s.body) (code_words statements) (words_spelled s.body (All-head P s statements proper))
-    (code_spelled statements (All-tail P s statements proper))
+    All-append IsWord (map word_of (instrs_of known (code_behind before) s.body)) (code_from known (before ++ s ∷ []) ss)
+    (instrs_spelled known (code_behind before) s.body (All-head P s ss proper))
+    (code_spelled known (before ++ s ∷ []) ss (All-tail P s ss proper))
 
-padded_spelled : (words : List ℕ) → IsCode words → IsCode (padded words)
+pub padded_spelled : (words : List ℕ) → IsCode words → IsCode (padded words)
 padded_spelled words spells = All-append IsWord words (replicate (length words % 2) 0) spells (All-replicate IsWord (length words % 2) 0 nop_spelled)
 
-length-words_of : (body : Body) → length (words_of body) ≡ 1
-length-words_of (Plain instr) = refl
+length-instrs_of : (known : Addresses) (here : ℕ) (body : Body) → 4 * length (map word_of (instrs_of known here body)) ≡ code_size body
+length-instrs_of known here (bodies.Plain instr) = refl
+length-instrs_of known here (bodies.BranchTo instr name) = refl
+length-instrs_of known here (bodies.JumpTo link name) = refl
+length-instrs_of known here (bodies.Load rt value) = refl
+length-instrs_of known here other = refl
 
-length-code_words : (statements : List Statement) → length (code_words statements) ≡ length statements
-length-code_words [] = refl
-length-code_words (s ∷ statements) = grind (arith, common_steps, length-words_of s.body, length-code_words statements)
+pub length-code_from : (known : Addresses) (before ss : List Statement) → 4 * length (code_from known before ss) ≡ code_behind ss
+unfolding code_from code_behind
+length-code_from known before [] = refl
+length-code_from known before (s ∷ ss) =
+    let here = map word_of (instrs_of known (code_behind before) s.body) in
+    let others = code_from known (before ++ s ∷ []) ss in
+    omega (arith, length-append here others, length-instrs_of known (code_behind before) s.body, length-code_from known (before ++ s ∷ []) ss, sum_by-cons (λ (t : Statement). code_size t.body) s ss)
 
-length-padded : (words : List ℕ) → length (padded words) ≡ length words + length words % 2
+pub length-padded : (words : List ℕ) → length (padded words) ≡ length words + length words % 2
 length-padded words = grind (arith, common_steps)
 
-pub image_good : (memory_lines : ℕ) (statements : List Statement) → 2 ≤ memory_lines → memory_lines ≤ 2 ^ 21 → AreProper statements → length statements ≤ 2 ^ 16 → length statements ≤ 2 * memory_lines → 0 < length (code_words statements)
-    → IsGood (record { memory_lines = memory_lines; code = padded (code_words statements); segments = [] })
-image_good memory_lines statements some_lines lines proper few room some =
-    let code = padded (code_words statements) in
-    let words : length code ≡ length statements + length statements % 2 =
-    omega (arith, length-padded (code_words statements), length-code_words statements) in
-    let bytes = bytes_of_image (record { memory_lines = memory_lines; code = code; segments = [] }) in
-    record {
-      two_lines = some_lines;
-      lines = lines;
-      some_code = omega (arith, words, length-code_words statements, some);
-      even_code = omega (arith, words);
-      code_words = omega (arith, words, few);
-      code = padded_spelled (code_words statements) (code_spelled statements proper);
-      apart = omega (arith, words, room);
-      few_bytes = omega (arith, words, bytes, few);
-    }
+-- the end of the code is the end of the padded words
+pub padded_end : (words : List ℕ) (ss : List Statement) → 4 * length words ≡ code_behind ss → 4 * length (padded words) ≡ code_end ss
+padded_end words ss sized = omega (arith, length-padded words, sized)

@@ -1,1 +1,5 @@
+pub mod RoomLemmas
+pub mod CodeLemmas
 pub mod CodeLaws
+pub mod SegmentsLaws
+pub mod ImageLaws
