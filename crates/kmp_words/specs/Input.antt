@@ -1,0 +1,74 @@
+-- What an input means: an image, or a refusal.
+use Rattle.std.specs.Prelude.{◌≡◌, ◌⊎◌, ℕ, ◌<◌, nat_lt, if◌then◌else◌, List, length, Option, Result, Ok, Err}
+use Rattle.kmp_base.specs.Streams.{Took, IsSpent, Rose}
+use Rattle.image_file.specs.declared.fault.ImageFault.{ImageFault}
+use Rattle.image_file.specs.declared.fault.ImageFault.TheVariants as images
+use Rattle.image_file.specs.Reading.{image_meaning}
+use Rattle.image_file.specs.Value.{ImageValue}
+use Rattle.asm_token.specs.declared.fault.AsmFault.{AsmFault}
+use Rattle.asm_token.specs.declared.fault.AsmFault.TheVariants as assembler
+use Rattle.asm_parse.specs.Lines.{statements_of}
+use Rattle.asm_link.specs.Assembly.{image_of}
+use Rattle.kmp_words.specs.Words.{◌>>=◌}
+use Rattle.kmp_words.specs.declared.input.Input.{Input}
+use Rattle.kmp_words.specs.declared.input.Input.TheVariants as inputs
+use Rattle.kmp_words.specs.declared.input.Refusal.{Refusal}
+use Rattle.kmp_words.specs.declared.input.Refusal.TheVariants.{TooLong, Asm, Image}
+use Rattle.kmp_words.specs.declared.input.LoadFault.{LoadFault}
+use Rattle.kmp_words.specs.declared.input.LoadFault.TheVariants as loads
+
+-- the most bytes of an input
+abbrev pub limit_of : Input → ℕ
+limit_of (inputs.Source memory_lines) = 1048576
+limit_of inputs.Image = 17825792
+
+-- a meaning, or a fault that becomes a refusal
+abbrev pub or_refused : {E : Type 0} → (E → Refusal) → Result ImageValue E → Result ImageValue Refusal
+or_refused refusal (Ok image) = Ok image
+or_refused refusal (Err fault) = Err (refusal fault)
+
+-- The image that bytes mean, as many as there are: that of the statements of a source, or the one that they spell.
+abbrev pub image_from : Input → List ℕ → Result ImageValue Refusal
+image_from (inputs.Source memory_lines) text =
+    or_refused (λ fault. Asm fault.0 fault.1) (statements_of text >>= λ statements. image_of memory_lines statements)
+image_from inputs.Image bytes = or_refused (λ fault. Image fault.0 fault.1) (image_meaning bytes)
+
+-- The image that an input means, or its refusal.
+unfoldable pub meaning_of : Input → List ℕ → Result ImageValue Refusal
+meaning_of input bytes = if nat_lt (limit_of input) (length bytes) then Err (TooLong (limit_of input)) else image_from input bytes
+
+-- The input was read to its end, or to one byte past the limit.
+pub record ReadsAll (limit : ℕ) (old new : Option (List ℕ)) (bytes : List ℕ) : Type 0 where
+  pub taken : Took old new bytes
+  pub all : IsSpent new ⊎ (limit < length bytes)
+
+-- An input with this meaning was read without a fault.
+pub record ReadsMeaning {S : Type 0} (left : S → Option (List ℕ)) (faults : S → ℕ) (old new : S) (input : Input) (meaning : Result ImageValue Refusal) : Type 0 where
+  pub bytes : List ℕ
+  pub reads : ReadsAll (limit_of input) (left old) (left new) bytes
+  pub no_fault : faults new ≡ faults old
+  pub means : meaning_of input bytes ≡ meaning
+
+-- A function answers a meaning, unless memory ran out.
+abbrev pub Gives : Result ImageValue Refusal → Result ImageValue LoadFault → Type 0
+Gives meaning (Ok image) = meaning ≡ Ok image
+Gives meaning (Err (loads.Refused refusal)) = meaning ≡ Err refusal
+Gives meaning (Err loads.Read) = ⊥
+Gives meaning (Err loads.Memory) = Unit {0}
+
+-- the fault of loading where the assembler has one
+abbrev pub of_source : AsmFault → LoadFault
+of_source assembler.Memory = loads.Memory
+of_source (assembler.At cause line) = loads.Refused (Asm cause line)
+
+-- the fault of loading where the reader of images has one
+abbrev pub of_image : ImageFault → LoadFault
+of_image images.Memory = loads.Memory
+of_image (images.At cause byte) = loads.Refused (Image cause byte)
+
+-- What loading answers: the image or the refusal that the input means, a failed read, or want of memory.
+abbrev pub Loads : {S : Type 0} → (S → Option (List ℕ)) → (S → ℕ) → S → S → Input → Result ImageValue LoadFault → Type 0
+Loads left faults old new input (Ok image) = ReadsMeaning left faults old new input (Ok image)
+Loads left faults old new input (Err (loads.Refused refusal)) = ReadsMeaning left faults old new input (Err refusal)
+Loads left faults old new input (Err loads.Read) = Rose (faults old) (faults new)
+Loads left faults old new input (Err loads.Memory) = faults new ≡ faults old

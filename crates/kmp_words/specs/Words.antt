@@ -1,0 +1,161 @@
+-- What the words of the command line ask for.
+use Rattle.std.specs.Prelude.{◌≡◌, ℕ, ◌≤◌, ◌+◌, ◌/◌, ◌%◌, ◌^◌, ◌==◌, ◌&&◌, Bool, not, nat_le, if◌then◌else◌, List, [], ◌∷◌, length, drop, take_while, map, codes, decimal, max, Option, Some, None, is_some, option_map, option_and_then, Result, Ok, Err}
+use Rattle.std.specs.Borrow.{Bor}
+use Rattle.std.specs.Option.{ok_or, option_map_or}
+use Rattle.std.specs.Str.{bytes_eq}
+use Rattle.std.specs.Str.Parse.{digits_value}
+use Rattle.kmp_base.specs.declared.setup.Setup.{Setup}
+use Rattle.kmp_base.specs.declared.setup.MachineKind.TheVariants as machines
+use Rattle.kmp_base.specs.declared.setup.Policy.TheVariants as policies
+use Rattle.kmp_base.specs.declared.setup.Turns.TheVariants as turns
+use Rattle.asm_parse.specs.Tables.{found_in}
+use Rattle.kmp_words.specs.declared.order.Order.{Order}
+use Rattle.kmp_words.specs.declared.order.Order.TheVariants as orders
+use Rattle.kmp_base.specs.Limits.{IsWithinLimits}
+use Rattle.kmp_words.specs.declared.input.Input.{Input}
+use Rattle.kmp_words.specs.declared.input.Input.TheVariants as inputs
+use Rattle.kmp_words.specs.declared.options.Command.{Command}
+use Rattle.kmp_words.specs.declared.options.Command.TheVariants as commands
+use Rattle.kmp_words.specs.declared.options.OptionName.{OptionName}
+use Rattle.kmp_words.specs.declared.options.OptionName.TheVariants as names
+use Rattle.kmp_words.specs.declared.options.Options.{Options}
+use Rattle.kmp_words.specs.declared.fault.WordFault.{WordFault}
+use Rattle.kmp_words.specs.declared.fault.WordCause.{WordCause}
+use Rattle.kmp_words.specs.declared.fault.WordCause.TheVariants.{NoCommand, UnknownCommand, UnknownOption, OptionTwice, BadValue, Excluded}
+
+infixl 10 ◌>>=◌
+-- the first fault answers
+abbrev pub ◌>>=◌ : {A B E : Type 0} → Result A E → (A → Result B E) → Result B E
+(Ok x) >>= f = f x
+(Err e) >>= f = Err e
+
+-- the bytes of the words
+abbrev pub texts_of : List (Bor (List ℕ)) → List (List ℕ)
+texts_of words = map (λ (word : Bor (List ℕ)). word.now) words
+
+abbrev pub command_names : List (List ℕ × Command)
+command_names = (codes "run", commands.Run) ∷ (codes "asm", commands.Asm) ∷ []
+
+-- the options of each command
+abbrev pub options_of : Command → List (List ℕ × OptionName)
+options_of commands.Run = (codes "--memory", names.Memory) ∷ (codes "--image", names.Image) ∷ []
+options_of commands.Asm = (codes "--memory", names.Memory) ∷ []
+
+-- The name in a word: what stands before its first `=`.
+abbrev pub name_in : List ℕ → List ℕ
+name_in word = take_while (λ b. not (b == 61)) word
+
+-- The value in a word: what stands behind that `=`, where there is one.
+abbrev pub value_in : List ℕ → Option (List ℕ)
+value_in word = elim (drop (length (name_in word)) word) [
+  | [] ↦ None
+  | equals ∷ value ↦ Some value
+]
+
+-- The number that a text spells: decimal digits without a leading zero.
+abbrev pub number_in : List ℕ → Option ℕ
+number_in text = let number = digits_value 10 text in if bytes_eq text (decimal number) then Some number else None
+
+-- the lines of a memory of so many bytes: from 16 to 16,777,216, a multiple of 8
+abbrev pub lines_of : ℕ → Option ℕ
+lines_of bytes = if nat_le 16 bytes && nat_le bytes (2 ^ 24) && (bytes % 8 == 0) then Some (bytes / 8) else None
+
+-- no option
+abbrev pub no_options : Options
+no_options = record { memory = None; image = None }
+
+-- whether an option stands already
+abbrev pub stands_in : Options → OptionName → Bool
+stands_in options names.Memory = is_some options.memory
+stands_in options names.Image = is_some options.image
+
+-- Options with one more, which stands at a word and has a value or none; None where its value is a bad one.
+abbrev pub with_option : Options → OptionName → ℕ → Option (List ℕ) → Option Options
+with_option options names.Memory word (Some text) =
+    option_map (λ lines. record options { memory = Some (lines, word) }) (option_and_then lines_of (number_in text))
+with_option options names.Image word None = Some (record options { image = Some word })
+with_option options name word value = None
+
+-- a fault at a word
+abbrev pub at_word : WordCause → ℕ → WordFault
+at_word cause word = record { cause = cause; word = word }
+
+-- a fault where a test says so
+abbrev pub fault_where : Bool → WordFault → Result (Unit {0}) WordFault
+fault_where wrong fault = if wrong then Err fault else Ok tt
+
+-- The option in a word, put with those before it: its name, that it stands once, and its value are judged in this order.
+unfoldable pub option_in : Command → ℕ → List ℕ → Options → Result Options WordFault
+option_in command word text options = do
+  name ← ok_or (found_in (options_of command) (name_in text)) (at_word UnknownOption word)
+  _ ← fault_where (stands_in options name) (at_word OptionTwice word)
+  ok_or (with_option options name word (value_in text)) (at_word BadValue word)
+
+-- The options in words from a place on, put with those before them.
+unfoldable pub options_from : Command → ℕ → Options → List (List ℕ) → Result Options WordFault
+options_from command word options [] = Ok options
+options_from command word options (text ∷ texts) =
+    option_in command word text options >>= λ more. options_from command (word + 1) more texts
+
+-- An image has its memory's size, so `--memory` and `--image` exclude each other. The later word is at fault.
+abbrev pub excluded_at : Options → Option ℕ
+excluded_at options = option_and_then (λ memory. option_map (λ image. max memory.1 image) options.image) options.memory
+
+-- the machine of a run
+abbrev pub run_setup : Setup
+run_setup = record {
+  machine = machines.Plain;
+  cores = 1;
+  budget = 20000;
+  policy = policies.Fifo;
+  turns = turns.Round;
+  seed = 0;
+  sets = 16;
+  ways = 1;
+}
+
+-- the lines of memory, of 8 bytes each; 65,536 bytes where no option says otherwise
+abbrev pub memory_lines : Options → ℕ
+memory_lines options = option_map_or (λ memory. memory.0) options.memory 8192
+
+-- what a command with its options asks for
+abbrev pub order_of : Command → Options → Order
+order_of commands.Run options = orders.Run run_setup (if is_some options.image then inputs.Image else inputs.Source (memory_lines options))
+order_of commands.Asm options = orders.Asm (memory_lines options)
+
+-- options of which none excludes another
+abbrev pub together : Options → Result Options WordFault
+together options = elim (excluded_at options) [
+  | None ↦ Ok options
+  | Some word ↦ Err (at_word Excluded word)
+]
+
+-- What the words ask for, or their first fault with the number of its word, counted from 1.
+unfoldable pub words_meaning : List (List ℕ) → Result Order WordFault
+words_meaning [] = Err (at_word NoCommand 1)
+words_meaning (first ∷ texts) = do
+  command ← ok_or (found_in command_names first) (at_word UnknownCommand 1)
+  options ← options_from command 2 no_options texts
+  allowed ← together options
+  Ok (order_of command allowed)
+
+-- a source's memory has a size that an image can have
+abbrev pub IsProperInput : Input → Type 0
+IsProperInput (inputs.Source memory_lines) = (2 ≤ memory_lines) × (memory_lines ≤ 2097152)
+IsProperInput inputs.Image = Unit {0}
+
+-- how an order reads its input
+abbrev pub input_of : Order → Input
+input_of (orders.Run setup input) = input
+input_of (orders.Asm memory_lines) = inputs.Source memory_lines
+
+-- What a run can be asked for by now: one unpipelined core.
+pub record IsRunnableSetup (setup : Setup) : Type 0 where
+  pub limits : IsWithinLimits setup
+  pub plain : setup.machine ≡ machines.Plain
+  pub one_core : setup.cores ≡ 1
+
+-- an order that can be carried out
+abbrev pub IsRunnable : Order → Type 0
+IsRunnable (orders.Run setup input) = IsRunnableSetup setup × IsProperInput input
+IsRunnable (orders.Asm memory_lines) = IsProperInput (inputs.Source memory_lines)

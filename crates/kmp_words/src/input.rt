@@ -1,0 +1,117 @@
+//! The image that is read from an input.
+ghost use Rattle.std.specs.Prelude.{◌≡◌, ◌≤◌, length};
+ghost use Rattle.kmp_words.specs.Words.{IsProperInput};
+ghost use Rattle.kmp_words.specs.Input.{limit_of, image_from, of_source, of_image, meaning_of, Gives, Loads};
+
+use asm_link::assemble;
+use asm_parse::{AsmCause, AsmFault, parse};
+use image_file::{Image, ImageCause, ImageFault, read_image};
+use kmp_base::{InputFault, Source, read_input};
+use std::alloc::Global;
+
+/// The most bytes of a source.
+pub const SOURCE_LIMIT: usize = 1_048_576;
+
+/// The most bytes of an image.
+pub const IMAGE_LIMIT: usize = 17_825_792;
+
+/// How an input is read.
+#[derive(Clone, Copy, Debug, PartialEq, Eq)]
+pub enum Input {
+    /// As an assembler source, for a memory of so many lines of 8 bytes.
+    Source(u32),
+    /// As the bytes of an image, which tells its memory.
+    Image,
+}
+
+/// Why an input has no meaning.
+#[derive(Clone, Copy, Debug, PartialEq, Eq)]
+pub enum Refusal {
+    /// It has more bytes than this limit.
+    TooLong(usize),
+    /// The assembler refuses it, at a line.
+    Asm(AsmCause, u32),
+    /// It is no image, at a byte.
+    Image(ImageCause, u32),
+}
+
+/// Why there is no image.
+#[derive(Clone, Copy, Debug, PartialEq, Eq)]
+pub enum LoadFault {
+    Memory,
+    /// A read failed.
+    Read,
+    Refused(Refusal),
+}
+
+impl From<AsmFault> for LoadFault {
+    ghost from_gives = { λ fault result. result ≡ of_source fault };
+
+    fn from(fault: AsmFault) -> LoadFault {
+        match fault {
+            AsmFault::Memory => LoadFault::Memory,
+            AsmFault::At(cause, line) => LoadFault::Refused(Refusal::Asm(cause, line)),
+        }
+    }
+}
+
+impl From<ImageFault> for LoadFault {
+    ghost from_gives = { λ fault result. result ≡ of_image fault };
+
+    fn from(fault: ImageFault) -> LoadFault {
+        match fault {
+            ImageFault::Memory => LoadFault::Memory,
+            ImageFault::At(cause, byte) => LoadFault::Refused(Refusal::Image(cause, byte)),
+        }
+    }
+}
+
+impl Input {
+    /// The most bytes of such an input.
+    fn limit(self) -> usize
+        ensures value { result ≡ limit_of self }
+    {
+        match self {
+            Input::Source(_) => SOURCE_LIMIT,
+            Input::Image => IMAGE_LIMIT,
+        }
+    }
+}
+
+/// The image that a source means.
+fn assembled(alloc: Global, text: &[u8], memory_lines: u32) -> Result<Image, LoadFault>
+    requires proper { IsProperInput (Input.Source memory_lines) }
+    requires size { length text.now ≤ limit_of (Input.Source memory_lines) }
+    ensures meaning { Gives (image_from (Input.Source memory_lines) text.now) result }
+{
+    let statements = parse(alloc, text)?;
+    Ok(assemble(alloc, &statements, memory_lines)?)
+}
+
+/// The image that bytes mean.
+#[tactic(auto, unfolding(crate::specs::Input::meaning_of))]
+fn image_from(alloc: Global, input: Input, bytes: &[u8]) -> Result<Image, LoadFault>
+    requires proper { IsProperInput input }
+    requires size { length bytes.now ≤ limit_of input }
+    ensures meaning { Gives (meaning_of input bytes.now) result }
+{
+    match input {
+        Input::Source(memory_lines) => assembled(alloc, bytes, memory_lines),
+        Input::Image => Ok(read_image(alloc, bytes)?),
+    }
+}
+
+/// Reads an input to its end, and gives the image that it means.
+///
+/// A source has at most [`SOURCE_LIMIT`] bytes, an image [`IMAGE_LIMIT`]; of a longer input one byte more is read.
+pub fn load<S: Source>(alloc: Global, source: &mut S, input: Input) -> Result<Image, LoadFault>
+    requires proper { IsProperInput input }
+    ensures loads { Loads S.left S.faults source.old source.new input result }
+{
+    match read_input(alloc, source, input.limit()) {
+        Ok(bytes) => image_from(alloc, input, &bytes),
+        Err(InputFault::TooLong) => Err(LoadFault::Refused(Refusal::TooLong(input.limit()))),
+        Err(InputFault::Failed) => Err(LoadFault::Read),
+        Err(InputFault::Memory) => Err(LoadFault::Memory),
+    }
+}

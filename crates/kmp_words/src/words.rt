@@ -1,0 +1,106 @@
+//! The words of the command line.
+ghost use Rattle.std.specs.Prelude.{◌≡◌, IfOk, option_copied};
+ghost use Rattle.kmp_words.specs.Words.{texts_of, name_in, value_in, no_options, option_in, options_from, order_of, words_meaning, IsRunnable};
+
+use crate::fault::{WordCause, WordFault};
+use crate::input::Input;
+use crate::options::{Command, Options};
+use crate::order::Order;
+use kmp_base::{MachineKind, Policy, Setup, Turns};
+
+const RUN: Setup = Setup {
+    machine: MachineKind::Plain,
+    cores: 1,
+    budget: 20_000,
+    policy: Policy::Fifo,
+    turns: Turns::Round,
+    seed: 0,
+    sets: 16,
+    ways: 1,
+};
+
+/// What stands before the first `=`, and what stands behind it, where there is one.
+fn split(word: &str) -> (&str, Option<&str>)
+    ensures name { result.0.now ≡ name_in word.now }
+    ensures value { option_copied result.1 ≡ value_in word.now }
+{
+    match word.split_once('=') {
+        Some((name, value)) => (name, Some(value)),
+        None => (word, None),
+    }
+}
+
+/// The option in a word, put with those before it.
+#[tactic(auto, unfolding(crate::specs::Words::option_in))]
+fn option_in(
+    command: Command,
+    word: u32,
+    text: &str,
+    options: Options,
+) -> Result<Options, WordFault>
+    ensures value { result ≡ option_in command word text.now options }
+{
+    let (name, value) = split(text);
+    let name = command
+        .option(name)
+        .ok_or(WordCause::UnknownOption.at(word))?;
+    if options.has(name) {
+        return Err(WordCause::OptionTwice.at(word));
+    }
+    options
+        .with(name, word, value)
+        .ok_or(WordCause::BadValue.at(word))
+}
+
+/// The options in the words behind the command.
+#[tactic(auto, unfolding(crate::specs::Words::options_from))]
+fn options_in(command: Command, texts: &[&str]) -> Result<Options, WordFault>
+    ensures value { result ≡ options_from command 2 no_options (texts_of texts.now) }
+{
+    let mut options = Options::NONE;
+    let mut word = 2;
+    for text in texts {
+        options = option_in(command, word, text, options)?;
+        word += 1;
+    }
+    Ok(options)
+}
+
+/// What a command with its options asks for.
+fn order_of(command: Command, options: Options) -> Order
+    ensures value { result ≡ order_of command options }
+{
+    let memory_lines = options.memory_lines();
+    match (command, options.image) {
+        (Command::Run, Some(_)) => Order::Run {
+            setup: RUN,
+            input: Input::Image,
+        },
+        (Command::Run, None) => Order::Run {
+            setup: RUN,
+            input: Input::Source(memory_lines),
+        },
+        (Command::Asm, _) => Order::Asm { memory_lines },
+    }
+}
+
+/// What the words behind the program's name ask for.
+///
+/// The first word is the command, `run` or `asm`. Each later one is an option, which may stand once: `--memory=N`, N
+/// bytes of memory, a multiple of 8 from 16 to 16,777,216 and 65,536 where it doesn't stand; or `--image`, where `run`
+/// reads an image. The first fault from the left answers, and behind them that the two exclude each other.
+#[tactic(auto, unfolding(crate::specs::Words::words_meaning))]
+pub fn read_words(words: &[&str]) -> Result<Order, WordFault>
+    ensures meaning { result ≡ words_meaning (texts_of words.now) }
+    ensures runnable { IfOk result (λ order. IsRunnable order) }
+{
+    let [first, texts @ ..] = words else {
+        return Err(WordCause::NoCommand.at(1));
+    };
+    let command = Command::named(first).ok_or(WordCause::UnknownCommand.at(1))?;
+    let options = options_in(command, texts)?;
+    match options.excluded_at() {
+        Some(word) => Err(WordCause::Excluded.at(word)),
+        None => Ok(order_of(command, options)),
+    }
+}
