@@ -1,6 +1,4 @@
-pub mod Words
+pub mod Outcome
 pub mod Refused
-pub mod Source
 pub mod Right
 pub mod Status
-pub mod Outcome

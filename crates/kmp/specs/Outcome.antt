@@ -1,31 +1,28 @@
 -- What a call of the program answers and leaves.
-use Rattle.std.specs.Prelude.{◌≡◌, ◌⊎◌, ℕ, ◌<◌, List, length, Option, Result, Ok, Err}
-use Rattle.kmp_base.specs.Streams.{Took, IsSpent, Rose, Writes}
-use Rattle.kmp_base.specs.declared.setup.Setup.{Setup}
+use Rattle.std.specs.Prelude.{◌≡◌, ◌⊎◌, ℕ, List, Option, Result, Ok, Err}
+use Rattle.kmp_base.specs.Streams.{Rose, Writes}
 use Rattle.kmp_base.specs.declared.transfer.WriteFault.{WriteFault}
-use Rattle.image_file.specs.Value.{ImageValue}
+use Rattle.image_file.specs.Value.{ImageValue, image_bytes}
 use Rattle.report_text.specs.Report.{ReportValue}
 use Rattle.report_text.specs.Text.{report_text}
+use Rattle.kmp_words.specs.Input.{ReadsMeaning}
+use Rattle.kmp_words.specs.Words.{input_of}
+use Rattle.kmp_words.specs.declared.input.Refusal.{Refusal}
+use Rattle.kmp_words.specs.declared.order.Order.{Order}
+use Rattle.kmp_words.specs.declared.order.Order.TheVariants as orders
 use Rattle.kmp.specs.Refused.{refusal_row}
-use Rattle.kmp.specs.Source.{meaning_of}
 use Rattle.kmp.specs.Right.{IsRightReport}
 use Rattle.kmp.specs.Status.{status_of, after_write}
-use Rattle.kmp.specs.declared.load.TheConstants.{SOURCE_LIMIT}
-use Rattle.kmp.specs.declared.load.Refusal.{Refusal}
-use Rattle.kmp.specs.declared.load.Refusal.TheVariants.{Asm}
-use Rattle.asm_parse.specs.declared.fault.AsmFault.{AsmFault}
-use Rattle.asm_parse.specs.declared.fault.AsmFault.TheVariants as faults
-use Rattle.kmp.specs.declared.load.LoadFault.{LoadFault}
-use Rattle.kmp.specs.declared.load.LoadFault.TheVariants as loads
 use Rattle.kmp.specs.declared.status.Status.{Status}
 use Rattle.kmp.specs.declared.status.Status.TheVariants as statuses
 
--- What is due where an input has this meaning: the text of a right report and the status of its ends,
--- or the row of the refusal.
-abbrev pub IsDue : Setup → Result ImageValue Refusal → List ℕ → Status → Type 0
-IsDue setup (Ok image) text due =
+-- What is due for an order whose input has this meaning: the text of a right report and the status of its ends, or
+-- the bytes of the image, or the row of the refusal.
+abbrev pub IsDue : Order → Result ImageValue Refusal → List ℕ → Status → Type 0
+IsDue (orders.Run setup input) (Ok image) text due =
     (report : ReportValue) × IsRightReport setup image report × (text ≡ report_text report) × (due ≡ status_of report)
-IsDue setup (Err refusal) text due = (text ≡ refusal_row refusal) × (due ≡ statuses.InputRefused)
+IsDue (orders.Asm memory_lines) (Ok image) text due = (text ≡ image_bytes image) × (due ≡ statuses.Done)
+IsDue order (Err refusal) text due = (text ≡ refusal_row refusal) × (due ≡ statuses.InputRefused)
 
 -- A text was written, and the status is the one that is due, or a write fault.
 pub record Answers {K : Type 0} (held : K → Option (List ℕ)) (faults : K → ℕ) (old new : K) (text : List ℕ) (due status : Status) : Type 0 where
@@ -34,10 +31,10 @@ pub record Answers {K : Type 0} (held : K → Option (List ℕ)) (faults : K →
   pub status_is : status ≡ after_write due result
 
 -- What is due was written.
-pub record Finishes {K : Type 0} (held : K → Option (List ℕ)) (faults : K → ℕ) (old new : K) (setup : Setup) (meaning : Result ImageValue Refusal) (status : Status) : Type 0 where
+pub record Finishes {K : Type 0} (held : K → Option (List ℕ)) (faults : K → ℕ) (old new : K) (order : Order) (meaning : Result ImageValue Refusal) (status : Status) : Type 0 where
   pub text : List ℕ
   pub due : Status
-  pub is_due : IsDue setup meaning text due
+  pub is_due : IsDue order meaning text due
   pub answers : Answers held faults old new text due status
 
 -- Want of memory, before anything was written.
@@ -45,42 +42,11 @@ pub record RunsOut {K : Type 0} (old new : K) (status : Status) : Type 0 where
   pub sink_kept : new ≡ old
   pub status_is : status ≡ statuses.NoMemory
 
--- The input was read to its end, or to one byte past the limit.
-pub record ReadsAll (old new : Option (List ℕ)) (bytes : List ℕ) : Type 0 where
-  pub taken : Took old new bytes
-  pub all : IsSpent new ⊎ (SOURCE_LIMIT < length bytes)
-
--- An input with this meaning was read without a fault.
-pub record ReadsMeaning {S : Type 0} (left : S → Option (List ℕ)) (faults : S → ℕ) (old new : S) (meaning : Result ImageValue Refusal) : Type 0 where
-  pub bytes : List ℕ
-  pub reads : ReadsAll (left old) (left new) bytes
-  pub no_fault : faults new ≡ faults old
-  pub means : meaning_of bytes ≡ meaning
-
--- The fault of loading where the assembler has one.
-abbrev pub load_fault : AsmFault → LoadFault
-load_fault faults.Memory = loads.Memory
-load_fault (faults.At cause line) = loads.Refused (Asm cause line)
-
--- What a text gives: the image or the refusal that it means, or want of memory.
-abbrev pub Means : List ℕ → Result ImageValue LoadFault → Type 0
-Means text (Ok image) = meaning_of text ≡ Ok image
-Means text (Err (loads.Refused refusal)) = meaning_of text ≡ Err refusal
-Means text (Err loads.Read) = ⊥
-Means text (Err loads.Memory) = Unit {0}
-
--- What loading answers: the image or the refusal that the input means, a failed read, or want of memory.
-abbrev pub Loads : {S : Type 0} → (S → Option (List ℕ)) → (S → ℕ) → S → S → Result ImageValue LoadFault → Type 0
-Loads left faults old new (Ok image) = ReadsMeaning left faults old new (Ok image)
-Loads left faults old new (Err (loads.Refused refusal)) = ReadsMeaning left faults old new (Err refusal)
-Loads left faults old new (Err loads.Read) = Rose (faults old) (faults new)
-Loads left faults old new (Err loads.Memory) = faults new ≡ faults old
-
 -- The input was read without a fault, and what is due for it was written.
-pub record RunsWhole {S K : Type 0} (left : S → Option (List ℕ)) (read_faults : S → ℕ) (held : K → Option (List ℕ)) (write_faults : K → ℕ) (setup : Setup) (source source' : S) (sink sink' : K) (status : Status) : Type 0 where
+pub record Fulfils {S K : Type 0} (left : S → Option (List ℕ)) (read_faults : S → ℕ) (held : K → Option (List ℕ)) (write_faults : K → ℕ) (order : Order) (source source' : S) (sink sink' : K) (status : Status) : Type 0 where
   pub meaning : Result ImageValue Refusal
-  pub reads : ReadsMeaning left read_faults source source' meaning
-  pub finishes : Finishes held write_faults sink sink' setup meaning status
+  pub reads : ReadsMeaning left read_faults source source' (input_of order) meaning
+  pub finishes : Finishes held write_faults sink sink' order meaning status
 
 -- A read failed, and nothing was written.
 pub record FailsToRead {S K : Type 0} (read_faults : S → ℕ) (source source' : S) (sink sink' : K) (status : Status) : Type 0 where
@@ -93,8 +59,8 @@ pub record LacksMemory {S K : Type 0} (read_faults : S → ℕ) (source source' 
   pub no_fault : read_faults source' ≡ read_faults source
   pub out : RunsOut sink sink' status
 
--- A run: what is due was written, or a read failed, or memory ran out. There is no other case.
-abbrev pub Runs : {S K : Type 0} → (S → Option (List ℕ)) → (S → ℕ) → (K → Option (List ℕ)) → (K → ℕ) → Setup → S → S → K → K → Status → Type 0
-Runs left read_faults held write_faults setup source source' sink sink' status =
-    RunsWhole left read_faults held write_faults setup source source' sink sink' status
+-- How an order ends: what is due was written, or a read failed, or memory ran out. There is no other case.
+abbrev pub Ends : {S K : Type 0} → (S → Option (List ℕ)) → (S → ℕ) → (K → Option (List ℕ)) → (K → ℕ) → Order → S → S → K → K → Status → Type 0
+Ends left read_faults held write_faults order source source' sink sink' status =
+    Fulfils left read_faults held write_faults order source source' sink sink' status
     ⊎ (FailsToRead read_faults source source' sink sink' status ⊎ LacksMemory read_faults source source' sink sink' status)

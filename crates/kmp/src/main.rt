@@ -1,13 +1,11 @@
-//! Runs an assembler source on the machine, and writes the report of the run.
+//! Runs an assembler source or an image on the machine and reports the run, or writes the image of a source.
 #![tactic(auto)]
 
-mod load;
 mod refused;
 mod status;
 #[cfg(test)]
 mod tests;
 mod tool;
-mod words;
 
 use kmp_base::{StdSink, StdSource};
 use std::env;

@@ -1,11 +1,11 @@
 //! The rows of refusals.
 ghost use Rattle.std.specs.Prelude.{◌≡◌, ◌≤◌, length};
-ghost use Rattle.kmp.specs.Refused.{refused_row, word_row, source_row, refusal_row};
+ghost use Rattle.kmp.specs.Refused.{refused_row, word_row, source_row, image_row, refusal_row};
 
-use crate::load::Refusal;
-use crate::words::{WordCause, WordFault};
 use asm_parse::AsmCause;
+use image_file::ImageCause;
 use kmp_base::Row;
+use kmp_words::{Refusal, WordCause, WordFault};
 
 // A refusal's number and name, and the kind and the number of its place.
 #[tactic(auto, using(kmp_base::proofs::TextLemmas::decimal_fits))]
@@ -36,6 +36,9 @@ pub fn of_words(fault: WordFault) -> Row
         WordCause::NoCommand => refused(20, "NoCommand", "word", word),
         WordCause::UnknownCommand => refused(21, "UnknownCommand", "word", word),
         WordCause::UnknownOption => refused(22, "UnknownOption", "word", word),
+        WordCause::OptionTwice => refused(23, "OptionTwice", "word", word),
+        WordCause::BadValue => refused(24, "BadValue", "word", word),
+        WordCause::Excluded => refused(25, "Excluded", "word", word),
     }
 }
 
@@ -44,8 +47,29 @@ fn of_source(cause: AsmCause, line: u32) -> Row
 {
     let line = u64::from(line);
     match cause {
+        AsmCause::BadByte => refused(1, "BadByte", "line", line),
+        AsmCause::UnknownName => refused(2, "UnknownName", "line", line),
+        AsmCause::BadOperand => refused(3, "BadOperand", "line", line),
+        AsmCause::Range => refused(4, "Range", "line", line),
+        AsmCause::LabelTwice => refused(5, "LabelTwice", "line", line),
+        AsmCause::LabelMissing => refused(6, "LabelMissing", "line", line),
         AsmCause::NoCode => refused(7, "NoCode", "line", line),
-        AsmCause::NotBuilt => refused(50, "NotBuilt", "line", line),
+        AsmCause::TooMuch => refused(8, "TooMuch", "line", line),
+    }
+}
+
+fn of_image(cause: ImageCause, byte: u32) -> Row
+    ensures row { result ≡ image_row cause byte }
+{
+    let byte = u64::from(byte);
+    match cause {
+        ImageCause::BadMagic => refused(10, "BadMagic", "byte", byte),
+        ImageCause::Truncated => refused(11, "Truncated", "byte", byte),
+        ImageCause::OddCode => refused(12, "OddCode", "byte", byte),
+        ImageCause::BadWord => refused(13, "BadWord", "byte", byte),
+        ImageCause::Overlap => refused(14, "Overlap", "byte", byte),
+        ImageCause::DoesNotFit => refused(15, "DoesNotFit", "byte", byte),
+        ImageCause::Trailing => refused(16, "Trailing", "byte", byte),
     }
 }
 
@@ -56,5 +80,6 @@ pub fn of_input(refusal: Refusal) -> Row
     match refusal {
         Refusal::TooLong(limit) => refused(9, "TooLong", "byte", limit as u64),
         Refusal::Asm(cause, line) => of_source(cause, line),
+        Refusal::Image(cause, byte) => of_image(cause, byte),
     }
 }
