@@ -1,26 +1,37 @@
 //! The list of what was done.
-ghost use Rattle.std.specs.Prelude.{◌≡◌, ℕ, ◌+◌, ◌<◌, ◌≤◌, ◌++◌, ◌∷◌, [], length, IfOk};
+ghost use Rattle.std.specs.Prelude.{◌≡◌, ℕ, ◌+◌, ◌<◌, ◌≤◌, ◌++◌, ◌∷◌, [], length, slice_get, IfOk};
+ghost use Rattle.access_log.specs.Places.{last_below, before, IsOfCore};
 
 use crate::{Item, NoMemory};
 use std::alloc::Global;
 use std::marker::Model;
 
-/// A list of items, the oldest first, with room for so many more.
+/// A list of items, the oldest first, with room for so many more. It only grows.
+///
+/// Each entry has a link to the one before it of its core, so that a core's entries are found
+/// without a search.
 #[derive(Drop)]
 pub struct History {
     items: Vec<Item>,
+    /// For each item, the place of its core's entry before it.
+    links: Vec<Option<u32>>,
+    /// For each core, the place of its last entry.
+    last: [Option<u32>; 8],
     spare: u32,
 }
 
 impl Model for History {
-    ghost use Rattle.std.specs.Prelude.{◌+◌, ◌≤◌, vec_len, vec_capacity};
-    ghost use Rattle.access_log.specs.HistoryView.{HistoryValue};
+    ghost use Rattle.std.specs.Prelude.{◌+◌, ◌<◌, ◌≤◌, ◌^◌, vec_len, vec_capacity};
+    ghost use Rattle.access_log.specs.HistoryView.{HistoryValue, IsLinked};
 
     ghost Value = { HistoryValue };
 
     ghost view = { λ h. record { items = h.items.items; spare = h.spare } };
 
-    ghost invariant = { λ h. vec_len h.items + h.spare ≤ vec_capacity h.items };
+    ghost invariant = { λ h. IsLinked h.items.items h.links.items h.last
+        × (vec_len h.items + h.spare ≤ vec_capacity h.items)
+        × (vec_len h.links + h.spare ≤ vec_capacity h.links)
+        × (vec_len h.items + h.spare < 2 ^ 32) };
 }
 
 impl History {
@@ -30,16 +41,29 @@ impl History {
         ensures spare { IfOk result (λ history. history.spare ≡ room) }
     {
         let items = Vec::with_capacity(alloc, room as usize)?;
-        Ok(History { items, spare: room })
+        let links = Vec::with_capacity(alloc, room as usize)?;
+        Ok(History {
+            items,
+            links,
+            last: [None; 8],
+            spare: room,
+        })
     }
 
     /// Appends an item. It takes no memory.
     pub fn push(&mut self, item: Item)
         requires room { 0 < self.old.spare }
+        requires core { IsOfCore item }
         ensures items { self.new.items ≡ self.old.items ++ item ∷ [] }
         ensures spare { self.new.spare + 1 ≡ self.old.spare }
     {
+        let place = self.items.len() as u32;
+        let link = match item {
+            Item::Done(entry) => self.last[entry.core as usize].replace(place),
+            Item::Bus(_) => None,
+        };
         self.items.push_reserved(item);
+        self.links.push_reserved(link);
         self.spare -= 1;
     }
 
@@ -48,5 +72,34 @@ impl History {
         ensures items { result.now ≡ self.now.items }
     {
         &self.items
+    }
+
+    /// How many items there are.
+    pub fn len(&self) -> u32
+        ensures len { result ≡ length self.now.items }
+    {
+        self.items.len() as u32
+    }
+
+    /// The item at a place, counted from 0.
+    pub fn get(&self, place: u32) -> Option<Item>
+        ensures item { result ≡ slice_get self.now.items place }
+    {
+        self.items.get(place as usize).copied()
+    }
+
+    /// The place of a core's last entry. It takes the same time for a history of any length.
+    pub fn last_of(&self, core: u32) -> Option<u32>
+        ensures last { result ≡ last_below self.now.items (length self.now.items) core }
+    {
+        self.last.get(core as usize).copied().flatten()
+    }
+
+    /// The place of the entry of the same core before the one at a place; none where no entry
+    /// stands there. It takes the same time for a history of any length.
+    pub fn before(&self, place: u32) -> Option<u32>
+        ensures before { result ≡ before self.now.items place }
+    {
+        self.links.get(place as usize).copied().flatten()
     }
 }

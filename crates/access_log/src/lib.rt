@@ -4,11 +4,13 @@
 mod history;
 mod laws;
 mod memory;
+mod request;
 
 pub use history::History;
 pub use laws::{interleaving_is_replay, replay_is_interleaving};
 pub use memory::{due, store};
 use mips_isa::{CoreState, Kind};
+pub use request::Request;
 pub use std::alloc::AllocError as NoMemory;
 
 /// An access that was done: what memory had, and what was stored.
