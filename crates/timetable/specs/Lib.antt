@@ -1,3 +1,5 @@
+pub mod Rows
 pub mod Outcome
 pub mod Cycles
 pub mod Right
+pub mod Turns

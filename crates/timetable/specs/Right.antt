@@ -23,3 +23,5 @@ pub record IsRight (setup : Setup) (image : ImageValue) (outcome : OutcomeValue)
   pub ends : (core : ℕ) (ended : CoreEnd) → slice_get outcome.cores core ≡ Some ended → EndsAt setup image outcome core ended
   -- Without caches there is no bus.
   pub no_transaction : transactions outcome.items ≡ []
+  -- Without a pipeline there is no timetable.
+  pub no_rows : (core : ℕ) (ended : CoreEnd) → slice_get outcome.cores core ≡ Some ended → ended.rows.rows ≡ []

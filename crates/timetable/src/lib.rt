@@ -4,9 +4,13 @@
 ghost use Rattle.std.specs.Prelude.{◌≡◌, ◌≤◌};
 ghost use Rattle.timetable.specs.Cycles.{plain_cycles};
 
+mod rows;
+
 use access_log::History;
 use image_file::Words;
 use mips_isa::{CoreState, Next, Stop};
+pub use rows::{Rows, TimeRow};
+pub use std::alloc::AllocError as NoMemory;
 use std::marker::Model;
 
 /// Why a core went no further.
@@ -30,7 +34,7 @@ impl End {
 }
 
 /// Where a core ended.
-#[derive(Clone, Copy, Debug)]
+#[derive(Drop)]
 pub struct CoreEnd {
     pub end: End,
     /// The cycles that it took, with the one of its stop. A spent core took its whole budget.
@@ -39,6 +43,8 @@ pub struct CoreEnd {
     pub retired: u32,
     /// Its state behind the last of these.
     pub state: CoreState,
+    /// Its timetable. An unpipelined core has none.
+    pub rows: Rows,
 }
 
 /// What a run leaves.

@@ -1,0 +1,89 @@
+//! The rows of a pipelined core's timetable.
+ghost use Rattle.std.specs.Prelude.{◌≡◌, ◌+◌, ◌<◌, ◌++◌, ◌∷◌, [], length, slice_get, IfOk};
+
+use crate::NoMemory;
+use std::alloc::Global;
+use std::marker::Model;
+
+/// The cycles in which an instruction passed the stages of a pipeline.
+#[derive(Clone, Copy, Debug, PartialEq, Eq)]
+pub struct TimeRow {
+    /// In which its word was taken.
+    pub i: u32,
+    /// In which it left the stage of the fetch.
+    pub f: u32,
+    /// In which it left the stage of decoding.
+    pub d: u32,
+    /// In which it left the stage of execution.
+    pub e: u32,
+    /// In which the answer to its access was taken; none where it makes no access.
+    pub a: Option<u32>,
+    /// In which it left the stage of memory.
+    pub m: u32,
+    /// In which it left the last stage; none where it stopped.
+    pub w: Option<u32>,
+}
+
+/// A list of rows, an instruction each, with room for so many more. It only grows.
+#[derive(Drop)]
+pub struct Rows {
+    rows: Vec<TimeRow>,
+    spare: u32,
+}
+
+impl Model for Rows {
+    ghost use Rattle.std.specs.Prelude.{◌+◌, ◌≤◌, ◌<◌, ◌^◌, vec_len, vec_capacity};
+    ghost use Rattle.timetable.specs.Rows.{RowsValue};
+
+    ghost Value = { RowsValue };
+
+    ghost view = { λ r. record { rows = r.rows.items; spare = r.spare } };
+
+    ghost invariant = { λ r. (vec_len r.rows + r.spare ≤ vec_capacity r.rows) × (vec_len r.rows + r.spare < 2 ^ 32) };
+}
+
+impl Rows {
+    /// No rows, and no room. It takes no memory.
+    pub fn empty(alloc: Global) -> Rows
+        ensures rows { result.rows ≡ [] }
+        ensures spare { result.spare ≡ 0 }
+    {
+        Rows {
+            rows: Vec::new(alloc),
+            spare: 0,
+        }
+    }
+
+    /// No rows, and room for so many. All its memory is taken here.
+    pub fn new(alloc: Global, room: u32) -> Result<Rows, NoMemory>
+        ensures rows { IfOk result (λ rows. rows.rows ≡ []) }
+        ensures spare { IfOk result (λ rows. rows.spare ≡ room) }
+    {
+        let rows = Vec::with_capacity(alloc, room as usize)?;
+        Ok(Rows { rows, spare: room })
+    }
+
+    /// Appends a row. It takes no memory.
+    pub fn push(&mut self, row: TimeRow)
+        requires room { 0 < self.old.spare }
+        ensures rows { self.new.rows ≡ self.old.rows ++ row ∷ [] }
+        ensures spare { self.new.spare + 1 ≡ self.old.spare }
+    {
+        self.rows.push_reserved(row);
+        self.spare -= 1;
+    }
+
+    /// How many rows there are.
+    pub fn len(&self) -> u32
+        ensures len { result ≡ length self.now.rows }
+    {
+        self.rows.len() as u32
+    }
+
+    /// The row of an instruction, counted from 0.
+    pub fn get(&self, n: u32) -> Option<TimeRow>
+        ensures row { result ≡ slice_get self.now.rows n }
+    {
+        self.rows.get(n as usize).copied()
+    }
+}
