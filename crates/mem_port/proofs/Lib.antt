@@ -1,0 +1,4 @@
+pub mod PortLaws
+pub mod LoadedLaws
+pub mod SideLaws
+pub mod FlatLaws

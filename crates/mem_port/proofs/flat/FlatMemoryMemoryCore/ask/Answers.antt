@@ -1,0 +1,8 @@
+use Rattle.std.proofs.Common.{rules, ◌<◌, length}
+use Rattle.mem_port.proofs.FlatLaws.{quiet-lawful}
+use Rattle.mem_port.proofs.flat.FlatMemoryMemoryCore.ask.Goals as goal
+
+pub returns-clause-lawful : goal.returns-clause-lawful
+returns-clause-lawful c =
+    let within : c.place-place.result < length c.args.self.now.cells.items = search rules in
+    quiet-lawful _ _ _ c.args.port _ _ _ c.place-place.ensures.place within c.requires.core c.requires.lawful c.requires.proper tt (λ core. tt) (λ w. w)

@@ -1,0 +1,21 @@
+//! What stands between cores and memory: the laws of both, and a memory that answers at once.
+//!
+//! A core has two ports, one for fetches and one for accesses. A request goes through a port in
+//! three calls: it is asked, it is served, and its answer is taken. Between the second and the
+//! third it may wait, until steps of the memory answer it.
+#![tactic(auto)]
+
+mod cell;
+mod engine;
+mod flat;
+mod memory;
+mod port;
+
+pub use engine::{CoreEngine, Progress};
+pub use flat::FlatMemory;
+pub use memory::MemoryCore;
+pub use port::{Moved, Port, PortState, Withdrawal};
+pub use std::alloc::AllocError as NoMemory;
+
+#[cfg(test)]
+mod tests;
