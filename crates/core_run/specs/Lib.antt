@@ -1,1 +1,3 @@
-pub mod Running
+pub mod Lanes
+pub mod PlainView
+pub mod Serial

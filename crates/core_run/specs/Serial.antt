@@ -1,0 +1,149 @@
+-- Cores that have their cycles in turn.
+use Rattle.std.specs.Prelude.{◌≡◌, ℕ, ◌+◌, ◌<◌, ◌≤◌, ◌⊎◌, ◌==◌, if◌then◌else◌, Bool, true, false, Option, Some, None, List, ◌++◌, length, slice_get, map}
+use Rattle.std.specs.List.{AllByRecursion}
+use Rattle.mips_isa.specs.declared.Stop.{Stop}
+use Rattle.image_file.specs.Value.{ImageValue, start_memory}
+use Rattle.access_log.specs.declared.Entry.{Entry}
+use Rattle.access_log.specs.declared.Item.{Item}
+use Rattle.access_log.specs.Items.{entries}
+use Rattle.access_log.specs.Replay.{replay}
+use Rattle.access_log.specs.Stamps.{Stamp, own_stamps, IsRising}
+use Rattle.letters.specs.declared.Shape.{Shape}
+use Rattle.letters.specs.Fold.{Follows}
+use Rattle.timetable.specs.declared.End.{End}
+use Rattle.timetable.specs.declared.End.TheVariants.{Stopped, Spent}
+use Rattle.timetable.specs.declared.CoreEnd.{CoreEnd}
+use Rattle.timetable.specs.declared.rows.TimeRow.{TimeRow}
+use Rattle.timetable.specs.Outcome.{OutcomeValue, final_of}
+use Rattle.mem_port.specs.declared.port.Port.TheVariants.{Fetch, Access}
+use Rattle.mem_port.specs.declared.engine.Progress.{Progress}
+use Rattle.mem_port.specs.declared.engine.Progress.TheVariants as progress
+use Rattle.mem_port.specs.Loaded.{stop, code_lines}
+use Rattle.mem_port.specs.Memory.{MemoryView}
+use Rattle.mem_port.specs.Engine.{EngineView}
+use Rattle.mem_port.specs.Pace.{Pace}
+use Rattle.mem_port.specs.Side.{side_of}
+use Rattle.core_run.specs.declared.lane.Lane.{Lane}
+use Rattle.core_run.specs.declared.serial.Seat.{Seat}
+use Rattle.core_run.specs.Lanes.{IsCoupled, IsFinished, IsStarted, IsClosed, at_once}
+
+-- An end is the stop at which the core stands, within the budget, or comes after the whole budget.
+abbrev pub EndFits : End → ℕ → ℕ → Option Stop → Type 0
+EndFits (Stopped why) budget cycles stops_at = (stops_at ≡ Some why) × (cycles ≤ budget)
+EndFits Spent budget cycles stops_at = cycles ≡ budget
+
+-- How a cycle ends a core, if it does.
+abbrev pub end_after : Progress → ℕ → ℕ → Option End
+end_after (progress.Stopped why) cycles budget = Some (Stopped why)
+end_after progress.Running cycles budget = if cycles == budget then Some Spent else None
+
+-- A core that runs on, after so many rounds: it has had as many cycles, and there are clocks and asks for the rest of the
+-- budget.
+pub record IsOn (rounds budget : ℕ) (m : MemoryView) (e : EngineView) (lane : Lane) (cycles : ℕ) : Type 0 where
+  pub coupled : IsCoupled None None e (side_of m lane.core) lane
+  pub live : e.is_live ≡ true
+  pub count : cycles ≡ rounds
+  pub more : rounds < budget
+  pub clocks : budget ≤ e.clocks_left + rounds
+  pub fetches : budget ≤ m.asks_left (Fetch lane.core) + rounds
+  pub accesses : budget ≤ m.asks_left (Access lane.core) + rounds
+
+-- A core that has ended.
+pub record IsOver (budget : ℕ) (m : MemoryView) (e : EngineView) (lane : Lane) (end : End) (cycles : ℕ) : Type 0 where
+  pub finished : IsFinished e (side_of m lane.core) lane.core
+  pub fits : EndFits end budget cycles (stop e.image e.state)
+
+-- By its end, if there is one.
+abbrev pub SeatHolds : Option End → ℕ → ℕ → MemoryView → EngineView → Lane → ℕ → Type 0
+SeatHolds None rounds budget m e lane cycles = IsOn rounds budget m e lane cycles
+SeatHolds (Some end) rounds budget m e lane cycles = IsOver budget m e lane end cycles
+
+-- What holds of the seat of a core between the turns, where it has had its turn in so many rounds.
+pub record SeatAt (core rounds budget : ℕ) (m : MemoryView) (e : EngineView) (lane : Lane) (end : Option End) (cycles : ℕ) : Type 0 where
+  pub lane_is : lane.core ≡ core
+  pub holds : SeatHolds end rounds budget m e lane cycles
+
+-- The seat of a core before its first turn.
+pub record IsStartSeat (image : ImageValue) (core cores budget : ℕ) (e : EngineView) (lane : Lane) (end : Option End) (cycles : ℕ) : Type 0 where
+  pub engine : IsStarted image core cores e
+  pub clocks : budget ≤ e.clocks_left
+  pub lane_is : lane.core ≡ core
+  pub closed : IsClosed lane
+  pub no_end : end ≡ None
+  pub no_cycle : cycles ≡ 0
+
+-- What a run leaves of a memory with these caches or none: the sequential machine, stepped by the accesses in their order,
+-- comes to exactly these cores and this memory, and each core has ended.
+pub record IsRun (image : ImageValue) (cores budget : ℕ) (caches : Option Shape) (outcome : OutcomeValue) : Type 0 where
+  pub count : length outcome.cores ≡ cores
+  pub within : AllByRecursion (λ entry. entry.core < cores) (entries outcome.items)
+  pub words : length outcome.words ≡ length (start_memory image)
+  pub replays : replay image.code (start_memory image) cores (entries outcome.items) (map (λ (ended : CoreEnd). ended.retired) outcome.cores)
+      ≡ Some (record { code = image.code; cores = map final_of outcome.cores; memory = outcome.words })
+  pub follows : Follows caches cores (code_lines image) outcome.items
+  pub ends : (core : ℕ) (ended : CoreEnd) → slice_get outcome.cores core ≡ Some ended
+      → EndFits ended.end budget ended.cycles (stop image ended.state)
+
+-- Whether a core that ended so could go on: where its budget is spent.
+abbrev pub goes_on : Option End → Bool
+goes_on (Some (Stopped why)) = false
+goes_on end = true
+
+-- A seat whose core's wants are met at once: nothing stays open, and it is stopped only by a stop.
+pub record IsPunctual (e : EngineView) (lane : Lane) (end : Option End) : Type 0 where
+  pub closed : IsClosed lane
+  pub live : e.is_live ≡ goes_on end
+
+-- A turn of a core adds at most one access, its own.
+pub record AddsOwn (core : ℕ) (more : List Entry) (old new : List Item) : Type 0 where
+  pub added : entries new ≡ entries old ++ more
+  pub own : AllByRecursion (λ entry. entry.core ≡ core) more
+  pub one : length more ≤ 1
+
+-- It is of a round before, or of this round and a turn before.
+abbrev pub IsEarlier : ℕ → ℕ → Stamp → Type 0
+IsEarlier rounds turn stamp = (stamp.cycle ≤ rounds) ⊎ ((stamp.cycle ≡ rounds + 1) × (stamp.entry.core < turn))
+
+-- The accesses, each in the cycle in which its core received it, rise: behind so many rounds, and so many turns of the next.
+pub record AreInTurns (rounds turn : ℕ) (items : List Item) (stamps : List Stamp) : Type 0 where
+  pub are : map (λ (stamp : Stamp). stamp.entry) stamps ≡ entries items
+  pub rising : IsRising stamps
+  pub earlier : AllByRecursion (IsEarlier rounds turn) stamps
+
+-- The engine of a core that ended so.
+pub record IsEngineOf (image : ImageValue) (core cores : ℕ) (ended : CoreEnd) (e : EngineView) : Type 0 where
+  pub image_is : e.image ≡ image
+  pub core_is : e.core ≡ core
+  pub cores_are : e.cores ≡ cores
+  pub retired : e.executed ≡ ended.retired
+  pub state : e.state ≡ ended.state
+  pub live : e.is_live ≡ goes_on (Some ended.end)
+
+-- The end that a core's engine, with its rows, and its seat tell.
+pub record IsEndOf (e : EngineView) (rows : List TimeRow) (end : Option End) (cycles : ℕ) (ended : CoreEnd) : Type 0 where
+  pub ends : end ≡ Some ended.end
+  pub took : ended.cycles ≡ cycles
+  pub retired : e.executed ≡ ended.retired
+  pub state : e.state ≡ ended.state
+  pub rows_are : ended.rows.rows ≡ rows
+
+-- Each seat is that of its core, which has had its turn in so many rounds.
+abbrev pub AreAt : {E : Type 0} → (E → EngineView) → ℕ → ℕ → MemoryView → List (Seat E) → Type 0
+AreAt {E} view rounds budget m seats = (core : ℕ) (s : Seat E) → slice_get seats core ≡ Some s
+    → SeatAt core rounds budget m (view s.engine) s.lane s.end s.cycles
+
+-- Each seat is that of its core before its first turn.
+abbrev pub AreFirst : {E : Type 0} → (E → EngineView) → ImageValue → ℕ → ℕ → List (Seat E) → Type 0
+AreFirst {E} view image cores budget seats = (core : ℕ) (s : Seat E) → slice_get seats core ≡ Some s
+    → IsStartSeat image core cores budget (view s.engine) s.lane s.end s.cycles
+
+-- The wants of each core were met at once, and its own accesses stand in their cycles among these.
+abbrev pub ArePrompt : {E : Type 0} → (E → EngineView) → (Pace → E → Type 0) → List Stamp → List (Seat E) → Type 0
+ArePrompt {E} view timed stamps seats = (core : ℕ) (s : Seat E) → slice_get seats core ≡ Some s
+    → IsPunctual (view s.engine) s.lane s.end × timed (at_once s.cycles (own_stamps stamps core)) s.engine
+
+-- So it was until the end of each core, whose engine also left these rows.
+abbrev pub EndPromptly : {E : Type 0} → (E → EngineView) → (E → List TimeRow) → (Pace → E → Type 0) → ImageValue → ℕ → List Stamp → List CoreEnd → Type 0
+EndPromptly {E} view rows timed image cores stamps ends = (core : ℕ) (ended : CoreEnd) → slice_get ends core ≡ Some ended
+    → (e : E) × (IsEngineOf image core cores ended (view e)
+    × ((ended.rows.rows ≡ rows e) × timed (at_once ended.cycles (own_stamps stamps core)) e))
