@@ -1,0 +1,4 @@
+pub mod QueueLemmas
+pub mod QueueLaws
+pub mod CallLaws
+pub mod ScriptLaws

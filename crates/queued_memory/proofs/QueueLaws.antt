@@ -1,0 +1,241 @@
+-- A memory in which served requests wait in a queue keeps the law.
+use Rattle.std.proofs.Common.{◌≡◌, ◌≢◌, ℕ, ◌+◌, ◌-◌, ◌*◌, ◌<◌, ◌≤◌, inl, inr, true, Option, Some, None, List, [], ◌∷◌, ◌++◌, length, refl, ap, sym, ◌∙◌, subst, arith}
+use Rattle.std.specs.List.{remove}
+use Rattle.std.proofs.Math.Nat.{mul-le-mul_left}
+use Rattle.image_file.specs.Value.{ImageValue}
+use Rattle.access_log.specs.declared.request.Request.{Request}
+use Rattle.access_log.specs.declared.Entry.{Entry}
+use Rattle.access_log.specs.Items.{own_items}
+use Rattle.mem_port.specs.declared.port.Port.{Port}
+use Rattle.mem_port.specs.declared.port.Port.TheVariants.{Fetch, Access}
+use Rattle.mem_port.specs.declared.port.PortState.{PortState}
+use Rattle.mem_port.specs.declared.port.PortState.TheVariants.{Free, Asked, Waiting, Answered, Closed}
+use Rattle.mem_port.specs.Ports.{core_of, IsWaiting, HoldsProper, HoldsCode, HoldsEntry}
+use Rattle.mem_port.specs.Flat.{pending}
+use Rattle.mem_port.specs.Memory.{MemoryView, IsLawful, IsAtOnce, Keeps, steps_of_request}
+use Rattle.mem_port.proofs.PortLaws.{cases_port}
+use Rattle.queued_memory.specs.Queue.{place_in, some_wait, shown, steps_to, asked_in, queued, IsQueue, StaysFresh}
+use Rattle.queued_memory.proofs.QueueLemmas.{place-push_other, place-within, place-removed_self, place-removed_other, IsSooner, distinct-push, distinct-removed, over-change, over-mono, over-two, over-zero, standing, length-standing}
+
+-- A request that is asked and not served.
+pub asked-is : (s : PortState) → pending s ≡ 1 → (r : Request) × (s ≡ Asked r)
+asked-is Free e = cc
+asked-is (Asked r) e = (r, refl)
+asked-is (Waiting r) e = cc
+asked-is (Answered r word) e = cc
+asked-is Closed e = cc
+
+pending-few : (s : PortState) → pending s ≤ 1
+pending-few Free = omega arith
+pending-few (Asked r) = omega arith
+pending-few (Waiting r) = omega arith
+pending-few (Answered r word) = omega arith
+pending-few Closed = omega arith
+
+-- What is shown of a port tells of the port inside.
+shown-free : (place : Option ℕ) (s : PortState) → shown place s ≡ Free → s ≡ Free
+shown-free None s is = is
+shown-free (Some i) Free is = refl
+shown-free (Some i) (Asked r) is = cc
+shown-free (Some i) (Waiting r) is = cc
+shown-free (Some i) (Answered r word) is = cc
+shown-free (Some i) Closed is = cc
+
+shown-proper : (image : ImageValue) (q : Port) (place : Option ℕ) (s : PortState) → HoldsProper image q s → HoldsProper image q (shown place s)
+shown-proper image q None s holds = holds
+shown-proper image q (Some i) Free holds = holds
+shown-proper image q (Some i) (Asked r) holds = holds
+shown-proper image q (Some i) (Waiting r) holds = holds
+shown-proper image q (Some i) (Answered r word) holds = holds
+shown-proper image q (Some i) Closed holds = holds
+
+shown-code : (image : ImageValue) (place : Option ℕ) (s : PortState) → HoldsCode image s → HoldsCode image (shown place s)
+shown-code image None s holds = holds
+shown-code image (Some i) Free holds = holds
+shown-code image (Some i) (Asked r) holds = holds
+shown-code image (Some i) (Waiting r) holds = holds
+shown-code image (Some i) (Answered r word) holds = holds
+shown-code image (Some i) Closed holds = holds
+
+shown-entry : (core : ℕ) (own : List Entry) (place : Option ℕ) (s : PortState) → HoldsEntry core own s → HoldsEntry core own (shown place s)
+shown-entry core own None s holds = holds
+shown-entry core own (Some i) Free holds = holds
+shown-entry core own (Some i) (Asked r) holds = holds
+shown-entry core own (Some i) (Waiting r) holds = holds
+shown-entry core own (Some i) (Answered r word) holds = holds
+shown-entry core own (Some i) Closed holds = holds
+
+-- The same is shown at any place.
+pub shown-sooner : (old new : Option ℕ) (s : PortState) → IsSooner old new → shown new s ≡ shown old s
+shown-sooner None None s sooner = refl
+shown-sooner None (Some j) s sooner = absurd sooner
+shown-sooner (Some i) None s sooner = absurd sooner
+shown-sooner (Some i) (Some j) Free sooner = refl
+shown-sooner (Some i) (Some j) (Asked r) sooner = refl
+shown-sooner (Some i) (Some j) (Waiting r) sooner = refl
+shown-sooner (Some i) (Some j) (Answered r word) sooner = refl
+shown-sooner (Some i) (Some j) Closed sooner = refl
+
+-- Numbers of steps.
+
+pub load-rises : (latency steps old new : ℕ) → steps ≤ latency → new ≡ old + 1 → latency * new - (latency - steps) ≤ (latency * old - (latency - steps)) + latency
+load-rises latency steps old new few e = omega (arith, ap (λ k. latency * k) e)
+
+pub load-stays : (latency left old new : ℕ) → new ≤ old → latency * new - left ≤ latency * old - left
+load-stays latency left old new h = omega (arith, mul-le-mul_left latency h)
+
+pub load-leaves : (latency steps left old new : ℕ) → steps ≤ latency → old ≡ new + 1 → latency * new - left ≤ latency * old - (latency - steps)
+load-leaves latency steps left old new few e = omega (arith, ap (λ k. latency * k) e)
+
+pub load-falls : (latency old new asked : ℕ) → old ≤ latency → new + 1 ≡ old → 1 ≤ asked → (latency * asked - (latency - new)) + 1 ≤ latency * asked - (latency - old)
+load-falls latency old new asked few e some = omega (arith, mul-le-mul_left latency some)
+
+pub load-answers : (latency steps old new : ℕ) → 1 ≤ steps → steps ≤ latency → old ≡ new + 1 → (latency * new - (latency - latency)) + 1 ≤ latency * old - (latency - steps)
+load-answers latency steps old new some few e = omega (arith, ap (λ k. latency * k) e)
+
+place-near : (latency steps cores place : ℕ) → 1 ≤ steps → steps ≤ latency → place < 2 * cores → (1 ≤ steps + latency * place) × (steps + latency * place ≤ latency * (2 * cores))
+place-near latency steps cores place some few within =
+    let below : place + 1 ≤ 2 * cores = omega arith in
+    (omega arith, omega (arith, mul-le-mul_left latency below))
+
+-- How many requests are asked inside.
+
+standing-asked : (place : Option ℕ) (asked : ℕ) → ((i : ℕ) → place ≡ Some i → asked ≡ 1) → standing place ≤ asked
+standing-asked None asked h = omega arith
+standing-asked (Some i) asked h = omega (arith, h i refl)
+
+-- A call on one port.
+pub asked-change : (p : Port) (m n : MemoryView) → core_of p < m.cores → n.cores ≡ m.cores → ((q : Port) → q ≢ p → n.port q ≡ m.port q) → asked_in n + pending (m.port p) ≡ asked_in m + pending (n.port p)
+asked-change p m n below cores same =
+    rw cores (over-change (λ q. pending (n.port q)) (λ q. pending (m.port q)) p m.cores below (λ q ne. ap pending (same q ne)))
+
+stood : (old new : Option ℕ) (j : ℕ) → IsSooner old new → new ≡ Some j → (i : ℕ) × (old ≡ Some i)
+stood None None j sooner is = cc
+stood None (Some k) j sooner is = absurd sooner
+stood (Some i) new j sooner is = (i, refl)
+
+pub some-busy : (waiting : List Port) → 0 < length waiting → some_wait waiting ≡ true
+some-busy [] some = absurd (omega arith)
+some-busy (p ∷ waiting) some = refl
+
+pub no-wait : (m : MemoryView) → IsLawful m → IsAtOnce m → (q : Port) → IsWaiting (m.port q) → ⊥
+no-wait m law once q waits = let near = law.near once.told q waits in absurd (omega (arith, near.0, near.1, once.bound))
+
+pub once-kept : (m n : MemoryView) → Keeps m n → IsAtOnce m → IsAtOnce n
+once-kept m n kept once = record { told = kept.tells_distances ∙ once.told; bound = kept.bound ∙ once.bound }
+
+module _ (latency : ℕ) (waiting : List Port) (steps : ℕ) (m : MemoryView) (queue : IsQueue latency waiting steps m) where
+  pub asked-many : length waiting ≤ asked_in m
+  asked-many =
+      omega (
+        arith,
+        length-standing waiting m.cores queue.distinct queue.within,
+        over-mono (λ q. standing (place_in waiting q)) (λ q. pending (m.port q)) m.cores (λ q. standing-asked (place_in waiting q) (pending (m.port q)) (queue.asked q)),
+      )
+
+  -- A queue is no longer than all ports are many.
+  pub queue-few : length waiting ≤ 2 * m.cores
+  queue-few = omega (arith, asked-many, over-two (λ q. pending (m.port q)) m.cores (λ q. pending-few (m.port q)))
+
+  waits-busy : (q : Port) (place : Option ℕ) → place_in waiting q ≡ place → IsWaiting (shown place (m.port q)) → some_wait waiting ≡ true
+  waits-busy q None is waits = absurd (no-wait m queue.lawful queue.at_once q waits)
+  waits-busy q (Some i) is waits = some-busy waiting (omega (arith, place-within waiting q i is))
+
+  waits-near : (q : Port) (place : Option ℕ) → place_in waiting q ≡ place → IsWaiting (shown place (m.port q)) → (1 ≤ steps_to latency steps place) × (steps_to latency steps place ≤ latency * (2 * m.cores))
+  waits-near q None is waits = absurd (no-wait m queue.lawful queue.at_once q waits)
+  waits-near q (Some i) is waits = place-near latency steps m.cores i queue.some_left queue.few_left (omega (arith, place-within waiting q i is, queue-few))
+
+  -- The law of the whole.
+  pub queued-lawful : IsLawful (queued latency waiting steps m)
+  queued-lawful = record {
+    good = queue.lawful.good;
+    legal = queue.lawful.legal;
+    follows = queue.lawful.follows;
+    within = queue.lawful.within;
+    proper = λ q. shown-proper m.image q (place_in waiting q) (m.port q) (queue.lawful.proper q);
+    fetched = λ core. shown-code m.image (place_in waiting (Fetch core)) (m.port (Fetch core)) (queue.lawful.fetched core);
+    served = λ core. shown-entry core (own_items m.history core) (place_in waiting (Access core)) (m.port (Access core)) (queue.lawful.served core);
+    waiting = λ q waits. waits-busy q (place_in waiting q) refl waits;
+    near = λ told q waits. waits-near q (place_in waiting q) refl waits;
+    unloaded = λ told free. (let none = over-zero (λ q. pending (m.port q)) m.cores (λ q. ap pending (shown-free (place_in waiting q) (m.port q) (free q))) in omega (arith, ap (λ k. latency * k) none));
+  }
+
+  -- A call on a port that doesn't stand in the queue.
+  pub queue-call : (p : Port) (n : MemoryView) → place_in waiting p ≡ None → IsLawful n → Keeps m n → ((q : Port) → q ≢ p → n.port q ≡ m.port q) → IsQueue latency waiting steps n
+  queue-call p n none law kept same = record {
+    lawful = law;
+    at_once = once-kept m n kept queue.at_once;
+    latency_is = rw kept.cores queue.latency_is;
+    some_left = queue.some_left;
+    few_left = queue.few_left;
+    distinct = queue.distinct;
+    within = λ q i is. rw kept.cores (queue.within q i is);
+    asked = λ q i is. ap pending (same q (λ e. (let P : Port → Type 0 = λ r. place_in waiting r ≡ Some i in let f : None ≡ Some i = sym none ∙ subst P e is in cc))) ∙ queue.asked q i is;
+  }
+
+  -- A request joins the queue.
+  pub queue-joins : (p : Port) (r : Request) → place_in waiting p ≡ None → m.port p ≡ Asked r → core_of p < m.cores → IsQueue latency (waiting ++ p ∷ []) steps m
+  queue-joins p r none asked below = record {
+    lawful = queue.lawful;
+    at_once = queue.at_once;
+    latency_is = queue.latency_is;
+    some_left = queue.some_left;
+    few_left = queue.few_left;
+    distinct = distinct-push waiting p queue.distinct none;
+    within = λ q i is. elim (cases_port p q) as (λ _. core_of q < m.cores) [
+      | inl e ↦ (let P : Port → Type 0 = λ r. core_of r < m.cores in subst P (sym e) below)
+      | inr ne ↦ queue.within q i (sym (place-push_other waiting p q ne) ∙ is)
+    ];
+    asked = λ q i is. elim (cases_port p q) as (λ _. pending (m.port q) ≡ 1) [
+      | inl e ↦ (let P : Port → Type 0 = λ r. pending (m.port r) ≡ 1 in subst P (sym e) (ap pending asked))
+      | inr ne ↦ queue.asked q i (sym (place-push_other waiting p q ne) ∙ is)
+    ];
+  }
+
+  -- A port that stands in the queue when another one went stood there before.
+  stood-before : (p q : Port) (place j : ℕ) → place_in waiting p ≡ Some place → place_in (remove waiting place) q ≡ Some j → (q ≢ p) × ((i : ℕ) × (place_in waiting q ≡ Some i))
+  stood-before p q place j at is =
+      let ne : q ≢ p = λ e. (let P : Port → Type 0 = λ r. place_in (remove waiting place) r ≡ Some j in let f : None ≡ Some j = sym (place-removed_self waiting p place queue.distinct at) ∙ subst P e is in cc) in
+      (ne, stood (place_in waiting q) (place_in (remove waiting place) q) j (place-removed_other waiting p q place ne at) is)
+
+  -- A request leaves the queue.
+  pub queue-leaves : (p : Port) (place left : ℕ) (n : MemoryView) → place_in waiting p ≡ Some place → 1 ≤ left → left ≤ latency → IsLawful n → Keeps m n → ((q : Port) → q ≢ p → n.port q ≡ m.port q) → IsQueue latency (remove waiting place) left n
+  queue-leaves p place left n at some few law kept same = record {
+    lawful = law;
+    at_once = once-kept m n kept queue.at_once;
+    latency_is = rw kept.cores queue.latency_is;
+    some_left = some;
+    few_left = few;
+    distinct = distinct-removed waiting p place queue.distinct at;
+    within = λ q j is. (let before = stood-before p q place j at is in rw kept.cores (queue.within q before.1.0 before.1.1));
+    asked = λ q j is. (let before = stood-before p q place j at is in ap pending (same q before.0) ∙ queue.asked q before.1.0 before.1.1);
+  }
+
+  -- The cores are the same, while a request needs as many steps.
+  pub cores-same : (others : List Port) (left : ℕ) (n : MemoryView) → IsQueue latency others left n → n.cores ≡ m.cores
+  cores-same others left n after = omega (arith, queue.latency_is, after.latency_is)
+
+-- Before the first call.
+
+empty-queue : (latency : ℕ) (m : MemoryView) → IsLawful m → IsAtOnce m → latency ≡ steps_of_request m → IsQueue latency [] latency m
+empty-queue latency m law once is = record {
+  lawful = law;
+  at_once = once;
+  latency_is = is;
+  some_left = omega arith;
+  few_left = omega arith;
+  distinct = tt;
+  within = λ q i at. cc;
+  asked = λ q i at. cc;
+}
+
+pub stays-fresh : (latency : ℕ) (m : MemoryView) → IsLawful m → IsAtOnce m → latency ≡ steps_of_request m → StaysFresh m (queued latency [] latency m)
+stays-fresh latency m law once is image cores asks caches fresh = record {
+  lawful = queued-lawful latency [] latency m (empty-queue latency m law once is);
+  image_is = fresh.image_is;
+  cores_are = fresh.cores_are;
+  caches_are = fresh.caches_are;
+  history = fresh.history;
+  ports = fresh.ports;
+  asks_left = fresh.asks_left;
+}
