@@ -1,6 +1,6 @@
 -- What options come to.
-use Rattle.std.proofs.Common.{◌≡◌, ℕ, ◌+◌, ◌^◌, ◌<◌, Bool, true, false, List, Bor, length, get_or, drop, [], ◌∷◌, Option, Some, None, option_and_then, option_map, Result, Ok, Err, decimal, refl, arith}
-use Rattle.std.specs.Prelude.{IfSome, is_some, nat_lt, if◌then◌else◌}
+use Rattle.std.proofs.Common.{◌≡◌, ℕ, ◌+◌, ◌^◌, ◌<◌, ◌≤◌, Bool, true, false, List, Bor, length, get_or, drop, [], ◌∷◌, Option, Some, None, option_and_then, option_map, Result, Ok, Err, decimal, refl, arith}
+use Rattle.std.specs.Prelude.{IfSome, is_some, nat_lt, nat_le, ◌&&◌, if◌then◌else◌}
 use Rattle.std.specs.Str.{bytes_eq}
 use Rattle.std.specs.Str.Parse.{digits_value}
 use Rattle.std.specs.Option.{option_len, option_map_or, ok_or}
@@ -8,6 +8,10 @@ use Rattle.std.proofs.lemmas.Fmt.{decimal_is_IsNumeral}
 use Rattle.std.proofs.lemmas.Bool.Decides.{nat_tests}
 use Rattle.std.proofs.lemmas.Slice.Eq.{bytes_eq-Decides}
 use Rattle.std.proofs.lemmas.List.{drop_more}
+use Rattle.kmp_base.specs.declared.setup.MachineKind.{MachineKind}
+use Rattle.kmp_base.specs.declared.setup.MachineKind.TheVariants as machines
+use Rattle.kmp_base.specs.declared.setup.Turns.{Turns}
+use Rattle.kmp_base.specs.declared.setup.Turns.TheVariants as turns
 use Rattle.kmp_words.specs.declared.options.Command.{Command}
 use Rattle.kmp_words.specs.declared.options.Command.TheVariants as commands
 use Rattle.kmp_words.specs.declared.input.Input.TheVariants as inputs
@@ -17,50 +21,92 @@ use Rattle.kmp_words.specs.declared.options.OptionName.TheVariants as names
 use Rattle.asm_parse.specs.Tables.{found_in}
 use Rattle.kmp_words.specs.declared.fault.WordFault.{WordFault}
 use Rattle.kmp_words.specs.declared.fault.WordCause.TheVariants.{UnknownOption, OptionTwice, BadValue}
-use Rattle.kmp_words.specs.Words.{◌>>=◌, name_in, value_in, number_in, lines_of, no_options, options_of, stands_in, with_option, at_word, fault_where, option_in, options_from, memory_lines, run_setup, order_of, texts_of, IsProperInput, IsRunnableSetup, IsRunnable}
+use Rattle.kmp_words.specs.Words.{◌>>=◌, name_in, value_in, number_in, lines_of, no_options, options_of, stands_in, with_option, at_word, fault_where, option_in, options_from, number_within, machine_names, turns_names, or_default, setup_of, memory_lines, order_of, texts_of, IsProperInput, IsRunnableSetup, IsRunnable}
 
 same : (text : List ℕ) → bytes_eq text text ≡ true
 same text = grind (arith, bytes_eq-Decides)
+
+-- a text that isn't a name differs from it
+pub differs : (name text : List ℕ) → (text ≡ name → ⊥) → bytes_eq name text ≡ false
+differs name text other = judged (bytes_eq name text) refl
+  where
+    judged : (is_same : Bool) → bytes_eq name text ≡ is_same → is_same ≡ false
+    judged false e = refl
+    judged true e = absurd (other (grind (arith, bytes_eq-Decides)))
 
 -- the spelling of a number spells it
 pub number_in_decimal : (text : List ℕ) (n : ℕ) → n < 2 ^ 64 → text ≡ decimal n → number_in text ≡ Some n
 number_in_decimal text n fits is = rw (is, (decimal_is_IsNumeral n fits).1, same (decimal n)) refl
 
--- a number above the most is no memory's
-no_lines : (bytes : ℕ) → 2 ^ 24 < bytes → lines_of bytes ≡ None
-no_lines bytes above = grind (arith, nat_tests)
-
--- a text that spells no number of 64 bits spells no memory
-pub no_number_in : (text : List ℕ) → ((n : ℕ) → n < 2 ^ 64 → text ≡ decimal n → ⊥) → option_and_then lines_of (number_in text) ≡ None
-no_number_in text none = judged (bytes_eq text (decimal number)) refl (nat_lt number (2 ^ 64)) refl
+-- a text that spells no number of 64 bits has no value, where greater ones have none
+no_number : {A : Type 0} (f : ℕ → Option A) (text : List ℕ) → ((number : ℕ) → 2 ^ 64 ≤ number → f number ≡ None) → ((n : ℕ) → n < 2 ^ 64 → text ≡ decimal n → ⊥) → option_and_then f (number_in text) ≡ None
+no_number f text above none = judged (bytes_eq text (decimal number)) refl (nat_lt number (2 ^ 64)) refl
   where
     number : ℕ
     number = digits_value 10 text
 
-    judged : (t : Bool) → bytes_eq text (decimal number) ≡ t → (u : Bool) → nat_lt number (2 ^ 64) ≡ u → option_and_then lines_of (number_in text) ≡ None
-    judged false e u f = rw e refl
-    judged true e true f = absurd (none number (grind (arith, nat_tests)) (grind (arith, bytes_eq-Decides)))
-    judged true e false f = let big : 2 ^ 24 < number = grind (arith, nat_tests) in rw (e, no_lines number big) refl
+    judged : (t : Bool) → bytes_eq text (decimal number) ≡ t → (u : Bool) → nat_lt number (2 ^ 64) ≡ u → option_and_then f (number_in text) ≡ None
+    judged false e u g = rw e refl
+    judged true e true g = absurd (none number (grind (arith, nat_tests)) (grind (arith, bytes_eq-Decides)))
+    judged true e false g = let big : 2 ^ 64 ≤ number = grind (arith, nat_tests) in rw (e, above number big) refl
+
+-- so it spells no memory
+pub no_number_in : (text : List ℕ) → ((n : ℕ) → n < 2 ^ 64 → text ≡ decimal n → ⊥) → option_and_then lines_of (number_in text) ≡ None
+no_number_in text none = no_number lines_of text (λ number big. grind (arith, nat_tests)) none
+
+-- and no number within bounds of 32 bits
+pub no_number_within : (least most : ℕ) (text : List ℕ) → most < 2 ^ 32 → ((n : ℕ) → n < 2 ^ 64 → text ≡ decimal n → ⊥) → number_within least most text ≡ None
+no_number_within least most text few none =
+    no_number (λ number. if nat_le least number && nat_le number most then Some number else None) text (λ number big. above number big) none
+  where
+    above : (number : ℕ) → 2 ^ 64 ≤ number → (if nat_le least number && nat_le number most then Some number else None) ≡ None
+    above number big = grind (arith, nat_tests)
 
 -- how many options stand
 abbrev pub count_of : Options → ℕ
-count_of options = option_len options.memory + option_len options.image
+count_of options =
+    option_len options.machine + option_len options.cores + option_len options.budget + option_len options.turns
+    + option_len options.memory + option_len options.image
 
 none_len : {A : Type 0} (o : Option A) → is_some o ≡ false → option_len o ≡ 0
 none_len None none = refl
 none_len (Some x) none = absurd cc
 
-with_memory : (options more : Options) (word : ℕ) (lines : Option ℕ) → is_some options.memory ≡ false → option_map (λ lines. record options { memory = Some (lines, word) }) lines ≡ Some more → count_of more ≡ count_of options + 1
-with_memory options more word None once is = absurd cc
-with_memory options more word (Some lines) once is =
-    let this : more ≡ record options { memory = Some (lines, word) } = cc in rw (this, none_len options.memory once) (omega arith)
+-- an option that has a value is put
+record Puts {A : Type 0} (put : A → Options) (value : Option A) (more : Options) : Type 0 where
+  it : A
+  is : value ≡ Some it
+  puts : more ≡ put it
+
+puts_of : {A : Type 0} (put : A → Options) (value : Option A) (more : Options) → option_map put value ≡ Some more → Puts put value more
+puts_of put None more is = absurd cc
+puts_of put (Some x) more is = record { it = x; is = refl; puts = cc }
 
 with_counts : (options more : Options) (name : OptionName) (word : ℕ) (value : Option (List ℕ)) → stands_in options name ≡ false → with_option options name word value ≡ Some more → count_of more ≡ count_of options + 1
-with_counts options more names.Memory word (Some text) once is = with_memory options more word (option_and_then lines_of (number_in text)) once is
+with_counts options more names.Machine word (Some text) once is =
+    let p = puts_of (λ kind. record options { machine = Some kind }) (found_in machine_names text) more is in
+    let none = none_len options.machine once in rw p.puts (omega (arith, none))
+with_counts options more names.Cores word (Some text) once is =
+    let p = puts_of (λ cores. record options { cores = Some cores }) (number_within 1 8 text) more is in
+    let none = none_len options.cores once in rw p.puts (omega (arith, none))
+with_counts options more names.Budget word (Some text) once is =
+    let p = puts_of (λ budget. record options { budget = Some budget }) (number_within 1 100000 text) more is in
+    let none = none_len options.budget once in rw p.puts (omega (arith, none))
+with_counts options more names.Turns word (Some text) once is =
+    let p = puts_of (λ order. record options { turns = Some order }) (found_in turns_names text) more is in
+    let none = none_len options.turns once in rw p.puts (omega (arith, none))
+with_counts options more names.Memory word (Some text) once is =
+    let p = puts_of (λ lines. record options { memory = Some (lines, word) }) (option_and_then lines_of (number_in text)) more is in
+    let none = none_len options.memory once in rw p.puts (omega (arith, none))
+with_counts options more names.Image word None once is =
+    let this : more ≡ record options { image = Some word } = cc in
+    let none = none_len options.image once in rw this (omega (arith, none))
+with_counts options more names.Machine word None once is = absurd cc
+with_counts options more names.Cores word None once is = absurd cc
+with_counts options more names.Budget word None once is = absurd cc
+with_counts options more names.Turns word None once is = absurd cc
 with_counts options more names.Memory word None once is = absurd cc
 with_counts options more names.Image word (Some text) once is = absurd cc
-with_counts options more names.Image word None once is =
-    let this : more ≡ record options { image = Some word } = cc in rw (this, none_len options.image once) (omega arith)
 
 -- options became more by an option that didn't stand
 record Adds (word : ℕ) (value : Option (List ℕ)) (options more : Options) : Type 0 where
@@ -88,43 +134,72 @@ adds command word text options more is = named (found_in (options_of command) (n
 pub counts : (command : Command) (word : ℕ) (text : List ℕ) (options more : Options) → option_in command word text options ≡ Ok more → count_of more ≡ count_of options + 1
 counts command word text options more is = let a = adds command word text options more is in with_counts options more a.name word (value_in text) a.once a.puts
 
--- a memory has a size that an image can have
-abbrev pub IsProperMemory : Option (ℕ × ℕ) → Type 0
-IsProperMemory memory = IfSome memory (λ m. IsProperInput (inputs.Source m.0))
+-- the values of options are within their bounds
+pub record AreProper (options : Options) : Type 0 where
+  pub machine_is : IfSome options.machine (λ machine. machine ≡ machines.Plain)
+  pub cores_are : IfSome options.cores (λ cores. (1 ≤ cores) × (cores ≤ 8))
+  pub budget_is : IfSome options.budget (λ budget. (1 ≤ budget) × (budget ≤ 100000))
+  pub turns_are : IfSome options.turns (λ order. order ≡ turns.Round)
+  pub memory_is : IfSome options.memory (λ m. IsProperInput (inputs.Source m.0))
 
-lines_proper : (bytes : ℕ) → IfSome (lines_of bytes) (λ lines. IsProperInput (inputs.Source lines))
-lines_proper bytes = grind (arith, nat_tests)
+lines_proper : (bytes lines : ℕ) → lines_of bytes ≡ Some lines → IsProperInput (inputs.Source lines)
+lines_proper bytes lines is = grind (arith, nat_tests)
 
-memory_proper : (options more : Options) (word : ℕ) (lines : Option ℕ) → IfSome lines (λ lines. IsProperInput (inputs.Source lines)) → option_map (λ lines. record options { memory = Some (lines, word) }) lines ≡ Some more → IsProperMemory more.memory
-memory_proper options more word None proper is = absurd cc
-memory_proper options more word (Some lines) proper is = let this : more ≡ record options { memory = Some (lines, word) } = cc in rw this proper
+memory_proper : (number : Option ℕ) (lines : ℕ) → option_and_then lines_of number ≡ Some lines → IsProperInput (inputs.Source lines)
+memory_proper None lines is = absurd cc
+memory_proper (Some bytes) lines is = lines_proper bytes lines is
 
-bytes_proper : (options more : Options) (word : ℕ) (bytes : Option ℕ) → option_map (λ lines. record options { memory = Some (lines, word) }) (option_and_then lines_of bytes) ≡ Some more → IsProperMemory more.memory
-bytes_proper options more word None is = absurd cc
-bytes_proper options more word (Some bytes) is = memory_proper options more word (lines_of bytes) (lines_proper bytes) is
+within_bounds : (least most : ℕ) (number : Option ℕ) (n : ℕ) → option_and_then (λ number. if nat_le least number && nat_le number most then Some number else None) number ≡ Some n → (least ≤ n) × (n ≤ most)
+within_bounds least most None n is = absurd cc
+within_bounds least most (Some number) n is = grind (arith, nat_tests)
 
-with_proper : (options more : Options) (name : OptionName) (word : ℕ) (value : Option (List ℕ)) → with_option options name word value ≡ Some more → IsProperMemory options.memory → IsProperMemory more.memory
-with_proper options more names.Memory word (Some text) is before = bytes_proper options more word (number_in text) is
+-- the one value of a table of one entry
+one_value : {T : Type 0} (found : Bool) (value other : T) → (if found then Some value else None) ≡ Some other → other ≡ value
+one_value true value other is = cc
+one_value false value other is = absurd cc
+
+with_proper : (options more : Options) (name : OptionName) (word : ℕ) (value : Option (List ℕ)) → with_option options name word value ≡ Some more → AreProper options → AreProper more
+with_proper options more names.Machine word (Some text) is before =
+    let p = puts_of (λ kind. record options { machine = Some kind }) (found_in machine_names text) more is in
+    rw p.puts (record { machine_is = one_value _ machines.Plain p.it p.is; cores_are = before.cores_are; budget_is = before.budget_is; turns_are = before.turns_are; memory_is = before.memory_is })
+with_proper options more names.Cores word (Some text) is before =
+    let p = puts_of (λ cores. record options { cores = Some cores }) (number_within 1 8 text) more is in
+    rw p.puts (record { machine_is = before.machine_is; cores_are = within_bounds 1 8 (number_in text) p.it p.is; budget_is = before.budget_is; turns_are = before.turns_are; memory_is = before.memory_is })
+with_proper options more names.Budget word (Some text) is before =
+    let p = puts_of (λ budget. record options { budget = Some budget }) (number_within 1 100000 text) more is in
+    rw p.puts (record { machine_is = before.machine_is; cores_are = before.cores_are; budget_is = within_bounds 1 100000 (number_in text) p.it p.is; turns_are = before.turns_are; memory_is = before.memory_is })
+with_proper options more names.Turns word (Some text) is before =
+    let p = puts_of (λ order. record options { turns = Some order }) (found_in turns_names text) more is in
+    rw p.puts (record { machine_is = before.machine_is; cores_are = before.cores_are; budget_is = before.budget_is; turns_are = one_value _ turns.Round p.it p.is; memory_is = before.memory_is })
+with_proper options more names.Memory word (Some text) is before =
+    let p = puts_of (λ lines. record options { memory = Some (lines, word) }) (option_and_then lines_of (number_in text)) more is in
+    rw p.puts (record { machine_is = before.machine_is; cores_are = before.cores_are; budget_is = before.budget_is; turns_are = before.turns_are; memory_is = memory_proper (number_in text) p.it p.is })
+with_proper options more names.Image word None is before =
+    let this : more ≡ record options { image = Some word } = cc in
+    rw this (record { machine_is = before.machine_is; cores_are = before.cores_are; budget_is = before.budget_is; turns_are = before.turns_are; memory_is = before.memory_is })
+with_proper options more names.Machine word None is before = absurd cc
+with_proper options more names.Cores word None is before = absurd cc
+with_proper options more names.Budget word None is before = absurd cc
+with_proper options more names.Turns word None is before = absurd cc
 with_proper options more names.Memory word None is before = absurd cc
 with_proper options more names.Image word (Some text) is before = absurd cc
-with_proper options more names.Image word None is before = let this : more ≡ record options { image = Some word } = cc in rw this before
 
-step_proper : (command : Command) (word : ℕ) (text : List ℕ) (options more : Options) (texts : List (List ℕ)) → ((next : Options) → options_from command (word + 1) next texts ≡ Ok more → IsProperMemory next.memory → IsProperMemory more.memory) → (here : Result Options WordFault) → option_in command word text options ≡ here → (here >>= λ next. options_from command (word + 1) next texts) ≡ Ok more → IsProperMemory options.memory → IsProperMemory more.memory
+step_proper : (command : Command) (word : ℕ) (text : List ℕ) (options more : Options) (texts : List (List ℕ)) → ((next : Options) → options_from command (word + 1) next texts ≡ Ok more → AreProper next → AreProper more) → (here : Result Options WordFault) → option_in command word text options ≡ here → (here >>= λ next. options_from command (word + 1) next texts) ≡ Ok more → AreProper options → AreProper more
 step_proper command word text options more texts others (Err fault) put is before = absurd cc
 step_proper command word text options more texts others (Ok next) put is before =
     let a = adds command word text options next put in others next is (with_proper options next a.name word (value_in text) a.puts before)
 
-from_proper : (command : Command) (word : ℕ) (options more : Options) (texts : List (List ℕ)) → options_from command word options texts ≡ Ok more → IsProperMemory options.memory → IsProperMemory more.memory
+from_proper : (command : Command) (word : ℕ) (options more : Options) (texts : List (List ℕ)) → options_from command word options texts ≡ Ok more → AreProper options → AreProper more
 unfolding options_from
 from_proper command word options more [] is before = let same : options ≡ more = cc in rw (← same) before
 from_proper command word options more (text ∷ texts) is before =
     step_proper command word text options more texts (λ next. from_proper command (word + 1) next more texts) (option_in command word text options) refl is before
 
 -- the options of a command line have a proper memory
-pub options_proper : (command : Command) (texts : List (List ℕ)) (options : Options) → options_from command 2 no_options texts ≡ Ok options → IsProperMemory options.memory
-options_proper command texts options is = from_proper command 2 no_options options texts is tt
+pub options_proper : (command : Command) (texts : List (List ℕ)) (options : Options) → options_from command 2 no_options texts ≡ Ok options → AreProper options
+options_proper command texts options is = from_proper command 2 no_options options texts is (record { machine_is = tt; cores_are = tt; budget_is = tt; turns_are = tt; memory_is = tt })
 
-lines_within : (memory : Option (ℕ × ℕ)) → IsProperMemory memory → IsProperInput (inputs.Source (option_map_or (λ m. m.0) memory 8192))
+lines_within : (memory : Option (ℕ × ℕ)) → IfSome memory (λ m. IsProperInput (inputs.Source m.0)) → IsProperInput (inputs.Source (option_map_or (λ m. m.0) memory 8192))
 lines_within None proper = (omega arith, omega arith)
 lines_within (Some m) proper = proper
 
@@ -132,26 +207,34 @@ input_proper : (image : Option ℕ) (lines : ℕ) → IsProperInput (inputs.Sour
 input_proper None lines proper = proper
 input_proper (Some word) lines proper = tt
 
-setup_runnable : IsRunnableSetup run_setup
-setup_runnable = record {
-  limits = record {
-    some_cores = omega arith;
-    cores = omega arith;
-    some_budget = omega arith;
-    budget = omega arith;
-    power_of_two = (4, refl);
-    sets = omega arith;
-    some_ways = omega arith;
-    ways = omega arith;
-  };
-  plain = refl;
-  one_core = refl;
-}
+-- what holds of an option's value and of the default holds of what is meant
+meant : {A : Type 0} (P : A → Type 0) (default : A) (option : Option A) → P default → IfSome option P → P (or_default default option)
+meant P default None here there = here
+meant P default (Some x) here there = there
+
+setup_runnable : (options : Options) → AreProper options → IsRunnableSetup (setup_of options)
+setup_runnable options proper =
+    let cores = meant (λ n. (1 ≤ n) × (n ≤ 8)) 1 options.cores (omega arith, omega arith) proper.cores_are in
+    let budget = meant (λ n. (1 ≤ n) × (n ≤ 100000)) 20000 options.budget (omega arith, omega arith) proper.budget_is in
+    record {
+      limits = record {
+        some_cores = cores.0;
+        cores = cores.1;
+        some_budget = budget.0;
+        budget = budget.1;
+        power_of_two = (4, refl);
+        sets = omega arith;
+        some_ways = omega arith;
+        ways = omega arith;
+      };
+      plain = meant (λ machine. machine ≡ machines.Plain) machines.Plain options.machine refl proper.machine_is;
+      round = meant (λ order. order ≡ turns.Round) turns.Round options.turns refl proper.turns_are;
+    }
 
 -- what a command with such options asks for can be carried out
-pub order_runnable : (command : Command) (options : Options) → IsProperMemory options.memory → IsRunnable (order_of command options)
-order_runnable commands.Run options proper = (setup_runnable, input_proper options.image (memory_lines options) (lines_within options.memory proper))
-order_runnable commands.Asm options proper = lines_within options.memory proper
+pub order_runnable : (command : Command) (options : Options) → AreProper options → IsRunnable (order_of command options)
+order_runnable commands.Run options proper = (setup_runnable options proper, input_proper options.image (memory_lines options) (lines_within options.memory proper.memory_is))
+order_runnable commands.Asm options proper = lines_within options.memory proper.memory_is
 
 -- the options behind a word
 pub options_go_on : (command : Command) (word : ℕ) (options next : Options) (texts : List (Bor (List ℕ))) (i : ℕ) (d : Bor (List ℕ)) → i < length texts → option_in command word (get_or texts i d).now options ≡ Ok next

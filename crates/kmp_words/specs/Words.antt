@@ -5,8 +5,10 @@ use Rattle.std.specs.Option.{ok_or, option_map_or}
 use Rattle.std.specs.Str.{bytes_eq}
 use Rattle.std.specs.Str.Parse.{digits_value}
 use Rattle.kmp_base.specs.declared.setup.Setup.{Setup}
+use Rattle.kmp_base.specs.declared.setup.MachineKind.{MachineKind}
 use Rattle.kmp_base.specs.declared.setup.MachineKind.TheVariants as machines
 use Rattle.kmp_base.specs.declared.setup.Policy.TheVariants as policies
+use Rattle.kmp_base.specs.declared.setup.Turns.{Turns}
 use Rattle.kmp_base.specs.declared.setup.Turns.TheVariants as turns
 use Rattle.asm_parse.specs.Tables.{found_in}
 use Rattle.kmp_words.specs.declared.order.Order.{Order}
@@ -38,7 +40,14 @@ command_names = (codes "run", commands.Run) ∷ (codes "asm", commands.Asm) ∷ 
 
 -- the options of each command
 abbrev pub options_of : Command → List (List ℕ × OptionName)
-options_of commands.Run = (codes "--memory", names.Memory) ∷ (codes "--image", names.Image) ∷ []
+options_of commands.Run =
+    (codes "--machine", names.Machine)
+    ∷ (codes "--cores", names.Cores)
+    ∷ (codes "--budget", names.Budget)
+    ∷ (codes "--turns", names.Turns)
+    ∷ (codes "--memory", names.Memory)
+    ∷ (codes "--image", names.Image)
+    ∷ []
 options_of commands.Asm = (codes "--memory", names.Memory) ∷ []
 
 -- The name in a word: what stands before its first `=`.
@@ -60,17 +69,40 @@ number_in text = let number = digits_value 10 text in if bytes_eq text (decimal 
 abbrev pub lines_of : ℕ → Option ℕ
 lines_of bytes = if nat_le 16 bytes && nat_le bytes (2 ^ 24) && (bytes % 8 == 0) then Some (bytes / 8) else None
 
+-- the number that a text spells, where it is from a least one to a greatest
+abbrev pub number_within : ℕ → ℕ → List ℕ → Option ℕ
+number_within least most text =
+    option_and_then (λ number. if nat_le least number && nat_le number most then Some number else None) (number_in text)
+
+abbrev pub machine_names : List (List ℕ × MachineKind)
+machine_names = (codes "plain", machines.Plain) ∷ []
+
+abbrev pub turns_names : List (List ℕ × Turns)
+turns_names = (codes "round", turns.Round) ∷ []
+
 -- no option
 abbrev pub no_options : Options
-no_options = record { memory = None; image = None }
+no_options = record { machine = None; cores = None; budget = None; turns = None; memory = None; image = None }
 
 -- whether an option stands already
 abbrev pub stands_in : Options → OptionName → Bool
+stands_in options names.Machine = is_some options.machine
+stands_in options names.Cores = is_some options.cores
+stands_in options names.Budget = is_some options.budget
+stands_in options names.Turns = is_some options.turns
 stands_in options names.Memory = is_some options.memory
 stands_in options names.Image = is_some options.image
 
 -- Options with one more, which stands at a word and has a value or none; None where its value is a bad one.
 abbrev pub with_option : Options → OptionName → ℕ → Option (List ℕ) → Option Options
+with_option options names.Machine word (Some text) =
+    option_map (λ machine. record options { machine = Some machine }) (found_in machine_names text)
+with_option options names.Cores word (Some text) =
+    option_map (λ cores. record options { cores = Some cores }) (number_within 1 8 text)
+with_option options names.Budget word (Some text) =
+    option_map (λ budget. record options { budget = Some budget }) (number_within 1 100000 text)
+with_option options names.Turns word (Some text) =
+    option_map (λ turns. record options { turns = Some turns }) (found_in turns_names text)
 with_option options names.Memory word (Some text) =
     option_map (λ lines. record options { memory = Some (lines, word) }) (option_and_then lines_of (number_in text))
 with_option options names.Image word None = Some (record options { image = Some word })
@@ -101,14 +133,18 @@ options_from command word options (text ∷ texts) =
 abbrev pub excluded_at : Options → Option ℕ
 excluded_at options = option_and_then (λ memory. option_map (λ image. max memory.1 image) options.image) options.memory
 
--- the machine of a run
-abbrev pub run_setup : Setup
-run_setup = record {
-  machine = machines.Plain;
-  cores = 1;
-  budget = 20000;
+-- what stands where an option does, and what is meant where it doesn't
+abbrev pub or_default : {A : Type 0} → A → Option A → A
+or_default default option = option_map_or (λ value. value) option default
+
+-- the setup of a run
+abbrev pub setup_of : Options → Setup
+setup_of options = record {
+  machine = or_default machines.Plain options.machine;
+  cores = or_default 1 options.cores;
+  budget = or_default 20000 options.budget;
   policy = policies.Fifo;
-  turns = turns.Round;
+  turns = or_default turns.Round options.turns;
   seed = 0;
   sets = 16;
   ways = 1;
@@ -120,7 +156,7 @@ memory_lines options = option_map_or (λ memory. memory.0) options.memory 8192
 
 -- what a command with its options asks for
 abbrev pub order_of : Command → Options → Order
-order_of commands.Run options = orders.Run run_setup (if is_some options.image then inputs.Image else inputs.Source (memory_lines options))
+order_of commands.Run options = orders.Run (setup_of options) (if is_some options.image then inputs.Image else inputs.Source (memory_lines options))
 order_of commands.Asm options = orders.Asm (memory_lines options)
 
 -- options of which none excludes another
@@ -149,11 +185,11 @@ abbrev pub input_of : Order → Input
 input_of (orders.Run setup input) = input
 input_of (orders.Asm memory_lines) = inputs.Source memory_lines
 
--- What a run can be asked for by now: one unpipelined core.
+-- What a run can be asked for by now: unpipelined cores in turns.
 pub record IsRunnableSetup (setup : Setup) : Type 0 where
   pub limits : IsWithinLimits setup
   pub plain : setup.machine ≡ machines.Plain
-  pub one_core : setup.cores ≡ 1
+  pub round : setup.turns ≡ turns.Round
 
 -- an order that can be carried out
 abbrev pub IsRunnable : Order → Type 0

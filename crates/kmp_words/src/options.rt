@@ -1,9 +1,9 @@
 //! Commands and their options.
 ghost use Rattle.std.specs.Prelude.{◌≡◌, option_and_then, option_copied};
 ghost use Rattle.asm_parse.specs.Tables.{found_in};
-ghost use Rattle.kmp_words.specs.Words.{command_names, options_of, number_in, lines_of, no_options, stands_in, with_option, excluded_at, memory_lines};
+ghost use Rattle.kmp_words.specs.Words.{command_names, options_of, number_in, lines_of, number_within, machine_names, turns_names, stands_in, with_option, excluded_at, memory_lines, setup_of};
 
-use kmp_base::decimal_of;
+use kmp_base::{MachineKind, Policy, Setup, Turns, decimal_of};
 
 #[derive(Clone, Copy, Debug, PartialEq, Eq)]
 pub enum Command {
@@ -13,6 +13,14 @@ pub enum Command {
 
 #[derive(Clone, Copy, Debug, PartialEq, Eq)]
 pub enum OptionName {
+    /// `--machine=X`: the kind of the cores and of their memory.
+    Machine,
+    /// `--cores=N`: so many cores.
+    Cores,
+    /// `--budget=N`: so many cycles for each core.
+    Budget,
+    /// `--turns=X`: the order of the cores' cycles.
+    Turns,
     /// `--memory=N`: so many bytes of memory.
     Memory,
     /// `--image`: the input is an image.
@@ -22,6 +30,10 @@ pub enum OptionName {
 /// The options of a command line.
 #[derive(Clone, Copy)]
 pub struct Options {
+    pub machine: Option<MachineKind>,
+    pub cores: Option<u32>,
+    pub budget: Option<u32>,
+    pub turns: Option<Turns>,
     /// The lines of memory, and the number of the word that says so.
     pub memory: Option<(u32, u32)>,
     /// The number of the word `--image`.
@@ -46,11 +58,66 @@ impl Command {
     pub fn option(self, name: &str) -> Option<OptionName>
         ensures value { result ≡ found_in (options_of self) name.now }
     {
-        match (self, name) {
-            (_, "--memory") => Some(OptionName::Memory),
-            (Command::Run, "--image") => Some(OptionName::Image),
-            _ => None,
+        match self {
+            Command::Run => run_option(name),
+            Command::Asm => asm_option(name),
         }
+    }
+}
+
+fn run_option(name: &str) -> Option<OptionName>
+    ensures value { result ≡ found_in (options_of Command.Run) name.now }
+{
+    match name {
+        "--machine" => Some(OptionName::Machine),
+        "--cores" => Some(OptionName::Cores),
+        "--budget" => Some(OptionName::Budget),
+        "--turns" => Some(OptionName::Turns),
+        "--memory" => Some(OptionName::Memory),
+        "--image" => Some(OptionName::Image),
+        _ => None,
+    }
+}
+
+fn asm_option(name: &str) -> Option<OptionName>
+    ensures value { result ≡ found_in (options_of Command.Asm) name.now }
+{
+    match name {
+        "--memory" => Some(OptionName::Memory),
+        _ => None,
+    }
+}
+
+/// The kind of machine that has a name.
+fn machine_named(name: &str) -> Option<MachineKind>
+    ensures value { result ≡ found_in machine_names name.now }
+{
+    match name {
+        "plain" => Some(MachineKind::Plain),
+        _ => None,
+    }
+}
+
+/// The turns that have a name.
+fn turns_named(name: &str) -> Option<Turns>
+    ensures value { result ≡ found_in turns_names name.now }
+{
+    match name {
+        "round" => Some(Turns::Round),
+        _ => None,
+    }
+}
+
+/// The number that a text spells, where it is within bounds.
+#[tactic(auto, using(crate::proofs::WordsLemmas::number_in_decimal, crate::proofs::WordsLemmas::no_number_within))]
+fn number_within(least: u32, most: u32, text: &str) -> Option<u32>
+    ensures value { result ≡ number_within least most text.now }
+{
+    let number = decimal_of(text.as_bytes())?;
+    if (u64::from(least)..=u64::from(most)).contains(&number) {
+        Some(number as u32)
+    } else {
+        None
     }
 }
 
@@ -75,6 +142,10 @@ fn lines_in(text: &str) -> Option<u32>
 
 impl Options {
     pub const NONE: Options = Options {
+        machine: None,
+        cores: None,
+        budget: None,
+        turns: None,
         memory: None,
         image: None,
     };
@@ -84,6 +155,10 @@ impl Options {
         ensures value { result ≡ stands_in self.now name }
     {
         match name {
+            OptionName::Machine => self.machine.is_some(),
+            OptionName::Cores => self.cores.is_some(),
+            OptionName::Budget => self.budget.is_some(),
+            OptionName::Turns => self.turns.is_some(),
             OptionName::Memory => self.memory.is_some(),
             OptionName::Image => self.image.is_some(),
         }
@@ -94,6 +169,22 @@ impl Options {
         ensures value { result ≡ with_option self name word (option_copied value.entry) }
     {
         match (name, value) {
+            (OptionName::Machine, Some(text)) => Some(Options {
+                machine: Some(machine_named(text)?),
+                ..self
+            }),
+            (OptionName::Cores, Some(text)) => Some(Options {
+                cores: Some(number_within(1, 8, text)?),
+                ..self
+            }),
+            (OptionName::Budget, Some(text)) => Some(Options {
+                budget: Some(number_within(1, 100_000, text)?),
+                ..self
+            }),
+            (OptionName::Turns, Some(text)) => Some(Options {
+                turns: Some(turns_named(text)?),
+                ..self
+            }),
             (OptionName::Memory, Some(text)) => {
                 let lines = lines_in(text)?;
                 Some(Options {
@@ -126,6 +217,22 @@ impl Options {
         match self.memory {
             Some((lines, _)) => lines,
             None => MEMORY_LINES,
+        }
+    }
+
+    /// The setup of a run.
+    pub fn setup(&self) -> Setup
+        ensures value { result ≡ setup_of self.now }
+    {
+        Setup {
+            machine: self.machine.unwrap_or(MachineKind::Plain),
+            cores: self.cores.unwrap_or(1),
+            budget: self.budget.unwrap_or(20_000),
+            policy: Policy::Fifo,
+            turns: self.turns.unwrap_or(Turns::Round),
+            seed: 0,
+            sets: 16,
+            ways: 1,
         }
     }
 }

@@ -5,12 +5,12 @@ use kmp_base::{MachineKind, MemorySource, Policy, Setup, Turns};
 use std::alloc::{AllocError, Global};
 use std::test::Fail;
 
-fn run(input: Input) -> Order {
+fn run(cores: u32, budget: u32, input: Input) -> Order {
     Order::Run {
         setup: Setup {
             machine: MachineKind::Plain,
-            cores: 1,
-            budget: 20_000,
+            cores,
+            budget,
             policy: Policy::Fifo,
             turns: Turns::Round,
             seed: 0,
@@ -23,13 +23,19 @@ fn run(input: Input) -> Order {
 
 #[test]
 fn orders(rt: HostRuntime) {
-    let cases: [(&[&str], Order); 9] = [
-        (&["run"], run(Input::Source(8192))),
+    let cases: [(&[&str], Order); 14] = [
+        (&["run"], run(1, 20_000, Input::Source(8192))),
         (&["asm"], Order::Asm { memory_lines: 8192 }),
-        (&["run", "--memory=65536"], run(Input::Source(8192))),
-        (&["run", "--memory=16"], run(Input::Source(2))),
-        (&["run", "--memory=24"], run(Input::Source(3))),
-        (&["run", "--memory=16777216"], run(Input::Source(2_097_152))),
+        (
+            &["run", "--memory=65536"],
+            run(1, 20_000, Input::Source(8192)),
+        ),
+        (&["run", "--memory=16"], run(1, 20_000, Input::Source(2))),
+        (&["run", "--memory=24"], run(1, 20_000, Input::Source(3))),
+        (
+            &["run", "--memory=16777216"],
+            run(1, 20_000, Input::Source(2_097_152)),
+        ),
         (&["asm", "--memory=64"], Order::Asm { memory_lines: 8 }),
         (
             &["asm", "--memory=16777216"],
@@ -37,7 +43,34 @@ fn orders(rt: HostRuntime) {
                 memory_lines: 2_097_152,
             },
         ),
-        (&["run", "--image"], run(Input::Image)),
+        (&["run", "--image"], run(1, 20_000, Input::Image)),
+        (
+            &["run", "--machine=plain", "--turns=round"],
+            run(1, 20_000, Input::Source(8192)),
+        ),
+        (
+            &["run", "--cores=1", "--budget=1"],
+            run(1, 1, Input::Source(8192)),
+        ),
+        (
+            &["run", "--budget=100000", "--cores=8"],
+            run(8, 100_000, Input::Source(8192)),
+        ),
+        (
+            &["run", "--cores=8", "--image"],
+            run(8, 20_000, Input::Image),
+        ),
+        (
+            &[
+                "run",
+                "--memory=16",
+                "--turns=round",
+                "--budget=7",
+                "--machine=plain",
+                "--cores=3",
+            ],
+            run(3, 7, Input::Source(2)),
+        ),
     ];
     for (words, order) in cases {
         assert_eq!(rt; read_words(words), Ok(order), "{words:?}");
@@ -46,7 +79,7 @@ fn orders(rt: HostRuntime) {
 
 #[test]
 fn faulty_words(rt: HostRuntime) {
-    let cases: [(&[&str], WordCause, u32); 22] = [
+    let cases: [(&[&str], WordCause, u32); 27] = [
         (&[], WordCause::NoCommand, 1),
         (&["fly"], WordCause::UnknownCommand, 1),
         (&["replay"], WordCause::UnknownCommand, 1),
@@ -59,7 +92,24 @@ fn faulty_words(rt: HostRuntime) {
         (&["run", "="], WordCause::UnknownOption, 2),
         (&["run", "--memory"], WordCause::BadValue, 2),
         (&["run", "--memor=64"], WordCause::UnknownOption, 2),
-        (&["run", "--cores=1"], WordCause::UnknownOption, 2),
+        (&["run", "--speed=1"], WordCause::UnknownOption, 2),
+        (&["asm", "--cores=1"], WordCause::UnknownOption, 2),
+        (
+            &["run", "--cores=2", "--cores=2"],
+            WordCause::OptionTwice,
+            3,
+        ),
+        (
+            &["run", "--turns=round", "--turns=seeded"],
+            WordCause::OptionTwice,
+            3,
+        ),
+        (
+            &["run", "--cores=2", "--seed=0"],
+            WordCause::UnknownOption,
+            3,
+        ),
+        (&["run", "--cores=2", "--budget=0"], WordCause::BadValue, 3),
         (&["asm", "--image"], WordCause::UnknownOption, 2),
         (&["run", "--image="], WordCause::BadValue, 2),
         (&["run", "--image=1"], WordCause::BadValue, 2),
@@ -84,8 +134,30 @@ fn faulty_words(rt: HostRuntime) {
 }
 
 #[test]
-fn bad_memories(rt: HostRuntime) {
+fn bad_values(rt: HostRuntime) {
     let words = [
+        "--cores",
+        "--cores=",
+        "--cores=0",
+        "--cores=9",
+        "--cores=01",
+        "--cores=+1",
+        "--cores=1 ",
+        "--cores=4294967297",
+        "--cores=18446744073709551617",
+        "--budget=0",
+        "--budget=100001",
+        "--budget=00001",
+        "--budget=1e3",
+        "--machine",
+        "--machine=",
+        "--machine=Plain",
+        "--machine=plain ",
+        "--machine=pipe",
+        "--machine=full",
+        "--turns=seeded",
+        "--turns=threads",
+        "--turns=",
         "--memory=",
         "--memory=0",
         "--memory=8",

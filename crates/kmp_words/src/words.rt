@@ -6,18 +6,6 @@ use crate::fault::{WordCause, WordFault};
 use crate::input::Input;
 use crate::options::{Command, Options};
 use crate::order::Order;
-use kmp_base::{MachineKind, Policy, Setup, Turns};
-
-const RUN: Setup = Setup {
-    machine: MachineKind::Plain,
-    cores: 1,
-    budget: 20_000,
-    policy: Policy::Fifo,
-    turns: Turns::Round,
-    seed: 0,
-    sets: 16,
-    ways: 1,
-};
 
 /// What stands before the first `=`, and what stands behind it, where there is one.
 fn split(word: &str) -> (&str, Option<&str>)
@@ -70,25 +58,25 @@ fn options_in(command: Command, texts: &[&str]) -> Result<Options, WordFault>
 fn order_of(command: Command, options: Options) -> Order
     ensures value { result ≡ order_of command options }
 {
-    let memory_lines = options.memory_lines();
-    match (command, options.image) {
-        (Command::Run, Some(_)) => Order::Run {
-            setup: RUN,
-            input: Input::Image,
+    let source = Input::Source(options.memory_lines());
+    match command {
+        Command::Run => Order::Run {
+            setup: options.setup(),
+            input: options.image.map_or(source, |_| Input::Image),
         },
-        (Command::Run, None) => Order::Run {
-            setup: RUN,
-            input: Input::Source(memory_lines),
+        Command::Asm => Order::Asm {
+            memory_lines: options.memory_lines(),
         },
-        (Command::Asm, _) => Order::Asm { memory_lines },
     }
 }
 
 /// What the words behind the program's name ask for.
 ///
-/// The first word is the command, `run` or `asm`. Each later one is an option, which may stand once: `--memory=N`, N
-/// bytes of memory, a multiple of 8 from 16 to 16,777,216 and 65,536 where it doesn't stand; or `--image`, where `run`
-/// reads an image. The first fault from the left answers, and behind them that the two exclude each other.
+/// The first word is the command, `run` or `asm`. Each later one is an option, which may stand once. `--memory=N` is for
+/// both: N bytes of memory, a multiple of 8 from 16 to 16,777,216, and 65,536 where it doesn't stand. The others are for
+/// `run`: `--cores=N`, from 1 to 8, and 1 where it doesn't stand; `--budget=N`, cycles for each core from 1 to 100,000,
+/// and 20,000 where it doesn't stand; `--machine=plain`; `--turns=round`; and `--image`, where it reads an image. The
+/// first fault from the left answers, and behind them that `--memory` and `--image` exclude each other.
 #[tactic(auto, unfolding(crate::specs::Words::words_meaning))]
 pub fn read_words(words: &[&str]) -> Result<Order, WordFault>
     ensures meaning { result ≡ words_meaning (texts_of words.now) }
