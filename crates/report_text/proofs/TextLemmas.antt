@@ -54,10 +54,14 @@ cores_rest core (suc i) (y ∷ ys) below =
     (later.0, ap (λ rows. core_rows core y ++ rows) later.1 ∙ sym (append_assoc (core_rows core y) (rows_of_cores (core + 1) (take (suc i) ys)) later.0))
 
 -- the text up to a core, and with it
-pub cores_text_take : (i : ℕ) (xs : List CoreEnd) (d : CoreEnd) → i < length xs → text_of (rows_of_cores 0 (take (i + 1) xs)) ≡ text_of (rows_of_cores 0 (take i xs)) ++ text_of (core_rows i (get_or xs i d))
+cores_text_take : (i : ℕ) (xs : List CoreEnd) (d : CoreEnd) → i < length xs → text_of (rows_of_cores 0 (take (i + 1) xs)) ≡ text_of (rows_of_cores 0 (take i xs)) ++ text_of (core_rows i (get_or xs i d))
 cores_text_take i xs d below =
     let same : 0 + i ≡ i = omega arith in
     ap (λ n. text_of (rows_of_cores 0 (take n xs))) (add-one i) ∙ ap text_of (cores_take 0 i xs d below ∙ ap (λ n. rows_of_cores 0 (take i xs) ++ core_rows n (get_or xs i d)) same) ∙ text_of-append (rows_of_cores 0 (take i xs)) (core_rows i (get_or xs i d))
+
+-- the text of the cores up to one more
+pub cores_text_next : (i : ℕ) (xs : List CoreEnd) (x d : CoreEnd) → i < length xs → x ≡ get_or xs i d → text_of (rows_of_cores 0 (take i xs)) ++ text_of (core_rows i x) ≡ text_of (rows_of_cores 0 (take (i + 1) xs))
+cores_text_next i xs x d below is = ap (λ ended. text_of (rows_of_cores 0 (take i xs)) ++ text_of (core_rows i ended)) is ∙ sym (cores_text_take i xs d below)
 
 pub cores_text_rest : (i : ℕ) (xs : List CoreEnd) → i < length xs → (rest : List ℕ) × (text_of (rows_of_cores 0 (take (i + 1) xs)) ++ rest ≡ text_of (rows_of_cores 0 xs))
 cores_text_rest i xs below =

@@ -9,8 +9,9 @@ use image_file::{Image, Words};
 use kmp_base::{MachineKind, MemorySink, Policy, Setup, Turns, WriteFault};
 use mips_isa::{CoreState, Kind, Stop};
 use std::alloc::Global;
+use std::process::Abort;
 use std::test::Fail;
-use timetable::{CoreEnd, End, Outcome};
+use timetable::{CoreEnd, End, Outcome, Rows};
 
 /// `addiu $t0,$zero,1`, `beq $zero,$zero,2`, `sw $t0,0x100($zero)`, `sw $t0,0x104($zero)` and `halt`
 /// on one core: the branch's delay slot stores, and the second store is jumped over.
@@ -111,6 +112,7 @@ fn outcome(alloc: Global, image: &Image) -> Result<Outcome, NoMemory>
             dpc: 0x10,
             regs,
         },
+        rows: Rows::empty(alloc),
     };
     let mut history = History::new(alloc, 1)?;
     history.push(Item::Done(Entry {
@@ -121,7 +123,8 @@ fn outcome(alloc: Global, image: &Image) -> Result<Outcome, NoMemory>
         old: 0,
         new: Some(1),
     }));
-    let cores = Vec::from_slice(alloc, &[ended])?;
+    let mut cores = Vec::with_capacity(alloc, 1)?;
+    cores.push_reserved(ended);
     let words = memory(alloc, image)?;
     Ok(Outcome {
         cores,
@@ -258,7 +261,7 @@ fn bus_items() -> [Item; 5] {
     ]
 }
 
-fn bus_ends() -> [CoreEnd; 2] {
+fn bus_ends(alloc: Global) -> Result<Vec<CoreEnd>, NoMemory> {
     let mut regs = [0; 32];
     for i in 0..32u32 {
         regs[i as usize] = i;
@@ -272,6 +275,7 @@ fn bus_ends() -> [CoreEnd; 2] {
             dpc: 8,
             regs,
         },
+        rows: Rows::empty(alloc),
     };
     let spent = CoreEnd {
         end: End::Spent,
@@ -282,13 +286,18 @@ fn bus_ends() -> [CoreEnd; 2] {
             dpc: 0xc,
             regs: [0; 32],
         },
+        rows: Rows::empty(alloc),
     };
-    [stopped, spent]
+    let mut ends = Vec::with_capacity(alloc, 2)?;
+    ends.push_reserved(stopped);
+    ends.push_reserved(spent);
+    Ok(ends)
 }
 
-fn on_a_bus(alloc: Global) -> Result<Report, NoMemory> {
+fn on_a_bus(rt: &impl Abort, alloc: Global) -> Result<Report, NoMemory> {
     let mut history = History::new(alloc, 5)?;
     for item in bus_items() {
+        assert!(rt; matches!(item, Item::Bus(_) | Item::Done(Entry { core: 0..=7, .. })));
         history.push(item);
     }
     let words = [
@@ -314,7 +323,7 @@ fn on_a_bus(alloc: Global) -> Result<Report, NoMemory> {
         },
         image: image(alloc)?,
         history,
-        cores: Vec::from_slice(alloc, &bus_ends())?,
+        cores: bus_ends(alloc)?,
         words: Vec::from_slice(alloc, &words)?,
         counts: Counts {
             values: [23, 1, 0, 2, 1, 2, 1, 1, 0, 0, 30, 4, u64::MAX],
@@ -324,7 +333,7 @@ fn on_a_bus(alloc: Global) -> Result<Report, NoMemory> {
 
 #[test]
 fn a_run_on_a_bus_is_reported(rt: HostRuntime) -> Result<(), Fail> {
-    let report = on_a_bus(rt.alloc())?;
+    let report = on_a_bus(&rt, rt.alloc())?;
     let mut sink = MemorySink::new(rt.alloc(), 4096, Vec::new(rt.alloc()))?;
     assert_eq!(rt; print_report(&report, &mut sink), Ok(()));
     assert_eq!(rt; str::from_utf8(&sink.held), Ok(ON_A_BUS));
