@@ -147,10 +147,16 @@ fn reports_and_refusals(rt: HostRuntime) -> Result<(), Fail> {
             "refused 22 UnknownOption word 2\n",
         ),
         (
-            &["run", "--image", "--image"],
+            &["run", "--cores=2", "--cores=2"],
             "halt",
             2,
             "refused 23 OptionTwice word 3\n",
+        ),
+        (
+            &["run", "--cores=9"],
+            "halt",
+            2,
+            "refused 24 BadValue word 2\n",
         ),
         (
             &["asm", "--memory=12"],
@@ -351,6 +357,103 @@ halt",
 const HALT_IMAGE: [u8; 24] = [
     0x4b, 0x4d, 0x50, 0x31, 0, 0x20, 0, 0, 2, 0, 0, 0, 0, 0, 0, 0, 0x0d, 0, 0, 0, 0, 0, 0, 0,
 ];
+
+// Each core stores the number of cores in a word of its own.
+const OWN_WORDS: &str = "sll $t0,$a0,2
+sw $a1,0x100($t0)
+halt
+";
+
+// Each core counts to a hundred in a shared word.
+const SHARED_COUNTER: &str = "        la    $t0, counter
+        li    $t1, 100
+loop:   lw    $t2, 0($t0)
+        addiu $t3, $t2, 1
+        move  $t4, $t2
+        cas   $t4, $t0, $t3
+        bne   $t4, $t2, loop
+        nop
+        addiu $t1, $t1, -1
+        bne   $t1, $zero, loop
+        nop
+        halt
+        .data 0x100
+counter: .word 0
+";
+
+// A run with these words has this status, and in its report these rows stand one behind the other.
+fn has_text(
+    rt: &impl Abort,
+    alloc: Global,
+    words: &[&str],
+    text: &str,
+    status: u8,
+    rows: &str,
+) -> Result<(), Fail> {
+    let mut source = source_of(alloc, text.as_bytes(), 4096, NEVER)?;
+    let mut sink = sink_failing_at(alloc, NEVER)?;
+    let answer = tool(alloc, words, &mut source, &mut sink);
+    assert_eq!(rt; answer, status, "for {words:?}");
+    assert!(rt; !rows.is_empty());
+    let is_there = sink
+        .held
+        .windows(rows.len())
+        .any(|part| part == rows.as_bytes());
+    assert!(rt; is_there, "{rows}");
+    Ok(())
+}
+
+#[test]
+fn cores_have_their_cycles_in_turn(rt: HostRuntime) -> Result<(), Fail> {
+    for (words, text, status, rows) in [
+        (
+            ["run", "--cores=2"].as_slice(),
+            OWN_WORDS,
+            0,
+            "A 0 1 sw 00000100 00000000 00000002
+A 1 1 sw 00000104 00000000 00000002
+C 0 halt 4 2 0000000c 00000008
+",
+        ),
+        (
+            &["run", "--cores=2"],
+            OWN_WORDS,
+            0,
+            "C 1 halt 4 2 0000000c 00000008\nR 1 0 ",
+        ),
+        // The budget ends before the access, and with it.
+        (
+            &["run", "--cores=2", "--budget=2"],
+            OWN_WORDS,
+            1,
+            "C 0 spent 2 1 00000008 00000004\nR 0 0 ",
+        ),
+        (
+            &["run", "--cores=2", "--budget=3"],
+            OWN_WORDS,
+            1,
+            "A 0 1 sw 00000100 00000000 00000002
+A 1 1 sw 00000104 00000000 00000002
+C 0 spent 3 2 0000000c 00000008
+",
+        ),
+        (
+            &["run", "--cores=2", "--budget=100000", "--machine=plain"],
+            SHARED_COUNTER,
+            0,
+            "N swapped 200\n",
+        ),
+        (
+            &["run", "--cores=2", "--budget=100000", "--turns=round"],
+            SHARED_COUNTER,
+            0,
+            "W 00000100 000000c8\nN retired ",
+        ),
+    ] {
+        has_text(&rt, rt.alloc(), words, text, status, rows)?;
+    }
+    Ok(())
+}
 
 #[test]
 fn images(rt: HostRuntime) -> Result<(), Fail> {
