@@ -1,5 +1,5 @@
 -- The MOESI protocol, as tables over the letters.
-use Rattle.std.specs.Prelude.{◌≡◌, ℕ, Bool, true, false, ◌==◌, if◌then◌else◌}
+use Rattle.std.specs.Prelude.{ℕ, Bool, true, false, ◌==◌, if◌then◌else◌}
 use Rattle.mips_isa.specs.declared.Kind.{Kind}
 use Rattle.mips_isa.specs.Kinds.{stores}
 use Rattle.access_log.specs.declared.Letter.{Letter}
