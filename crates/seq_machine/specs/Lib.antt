@@ -1,0 +1,4 @@
+pub mod Differences
+pub mod Entering
+pub mod Reaching
+pub mod Sound
