@@ -1,11 +1,13 @@
 //! What cores ask of memory, the list of what was done, and the sequential machine that repeats it.
 #![tactic(auto)]
 
+mod field;
 mod history;
 mod laws;
 mod memory;
 mod request;
 
+pub use field::{Field, Found};
 pub use history::History;
 pub use laws::{interleaving_is_replay, replay_is_interleaving};
 pub use memory::{due, store};

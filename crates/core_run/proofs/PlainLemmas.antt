@@ -14,7 +14,7 @@ use Rattle.mem_port.specs.Loaded.{on_code, request}
 use Rattle.mem_port.specs.Engine.{EngineView, IsSound}
 use Rattle.mem_port.specs.Pace.{Pace, IsLeft, Paces, executed_by}
 use Rattle.mem_port.proofs.LoadedLaws.{stops-stop, goes-stop, goes-request, goes-quiet, asks-request, request-nth}
-use Rattle.core_run.specs.PlainView.{wanted_fetch, under_way, plain_view, in_own_cycles, IsPrompt, plain_timed}
+use Rattle.core_run.specs.PlainView.{wanted_fetch, under_way, plain_view, in_own_cycles, IsUnstalled, plain_timed}
 use Rattle.core_run.specs.declared.plain.Phase.{Phase}
 use Rattle.core_run.specs.declared.plain.Phase.TheVariants as phases
 
@@ -66,31 +66,31 @@ quiet-pace : (p q : Pace) (e : EngineView) (fetched reply : Option ℕ) → Pace
 quiet-pace p q e fetched reply h none = h.accesses ∙ (rw none (append-nil p.accesses))
 
 -- A clock that executes no access, and uses one clock on an instruction.
-pub prompt-quiet : (p q : Pace) (old new : EngineView) (before after : Phase) (fetched reply : Option ℕ) → IsPrompt p old before → Paces fetched reply old p q → p.bound ≡ 0
-    → executed_by old.core old.access reply ≡ [] → new.executed + under_way after ≡ old.executed + under_way before + 1 → IsSound new → IsPrompt q new after
-prompt-quiet p q old new before after fetched reply prompt h zero none used sound =
+pub unstalled-quiet : (p q : Pace) (old new : EngineView) (before after : Phase) (fetched reply : Option ℕ) → IsUnstalled p old before → Paces fetched reply old p q → p.bound ≡ 0
+    → executed_by old.core old.access reply ≡ [] → new.executed + under_way after ≡ old.executed + under_way before + 1 → IsSound new → IsUnstalled q new after
+unstalled-quiet p q old new before after fetched reply unstalled h zero none used sound =
     let same = quiet-pace p q old fetched reply h none in
     record {
-      fetch_left = left-none _ _ _ _ _ zero prompt.fetch_left h.fetch;
-      access_left = left-none _ _ _ _ _ zero prompt.access_left h.access;
-      clocks = rw same (omega (arith, h.clocks, prompt.clocks, used));
-      cycles = rw same prompt.cycles;
+      fetch_left = left-none _ _ _ _ _ zero unstalled.fetch_left h.fetch;
+      access_left = left-none _ _ _ _ _ zero unstalled.access_left h.access;
+      clocks = rw same (omega (arith, h.clocks, unstalled.clocks, used));
+      cycles = rw same unstalled.cycles;
       sound = sound;
     }
 
 -- The clock in which the answer to an access comes.
-pub prompt-answer : (p q : Pace) (old new : EngineView) (before after : Phase) (fetched : Option ℕ) (r : Request) (word : ℕ) → IsPrompt p old before → Paces fetched (Some word) old p q → p.bound ≡ 0
-    → old.access ≡ Some r → under_way before ≡ 1 → under_way after ≡ 0 → new.executed ≡ old.executed + 1 → IsSound new → IsPrompt q new after
-prompt-answer p q old new before after fetched r word prompt h zero wanted waits done more sound =
-    let nth = entry_of-nth old.core r word ∙ request-nth old.image old.executed old.state r (prompt.sound.access_next r wanted) in
+pub unstalled-answer : (p q : Pace) (old new : EngineView) (before after : Phase) (fetched : Option ℕ) (r : Request) (word : ℕ) → IsUnstalled p old before → Paces fetched (Some word) old p q → p.bound ≡ 0
+    → old.access ≡ Some r → under_way before ≡ 1 → under_way after ≡ 0 → new.executed ≡ old.executed + 1 → IsSound new → IsUnstalled q new after
+unstalled-answer p q old new before after fetched r word unstalled h zero wanted waits done more sound =
+    let nth = entry_of-nth old.core r word ∙ request-nth old.image old.executed old.state r (unstalled.sound.access_next r wanted) in
     let came : executed_by old.core old.access (Some word) ≡ entry_of old.core r word ∷ [] = rw wanted refl in
     let longer : q.accesses ≡ p.accesses ++ stamped q.clocks (entry_of old.core r word ∷ []) = h.accesses ∙ rw came refl in
     let count : length (p.accesses ++ stamped q.clocks (entry_of old.core r word ∷ [])) ≡ length p.accesses + 1 = length-append p.accesses (stamped q.clocks (entry_of old.core r word ∷ [])) in
     record {
-      fetch_left = left-none _ _ _ _ _ zero prompt.fetch_left h.fetch;
-      access_left = left-none _ _ _ _ _ zero prompt.access_left h.access;
-      clocks = rw longer (omega (arith, h.clocks, prompt.clocks, count, waits, done));
-      cycles = rw longer (own_cycles-more p.accesses (entry_of old.core r word) q.clocks prompt.cycles (omega (arith, h.clocks, prompt.clocks, nth, waits)));
+      fetch_left = left-none _ _ _ _ _ zero unstalled.fetch_left h.fetch;
+      access_left = left-none _ _ _ _ _ zero unstalled.access_left h.access;
+      clocks = rw longer (omega (arith, h.clocks, unstalled.clocks, count, waits, done));
+      cycles = rw longer (own_cycles-more p.accesses (entry_of old.core r word) q.clocks unstalled.cycles (omega (arith, h.clocks, unstalled.clocks, nth, waits)));
       sound = sound;
     }
 
@@ -111,7 +111,7 @@ module _ (image : ImageValue) (core cores : ℕ) (state : CoreState) (executed c
   stopped-sound = record { fetch_on_code = λ addr h. cc; access_next = λ r h. cc }
 
 -- It tells of its times where all its wants are met at once, as long as it isn't drained.
-timed-all : (q : Pace) (e : EngineView) (phase : Phase) → phase ≢ phases.Drained → (q.bound ≡ 0 → IsPrompt q e phase) → plain_timed q e phase
+timed-all : (q : Pace) (e : EngineView) (phase : Phase) → phase ≢ phases.Drained → (q.bound ≡ 0 → IsUnstalled q e phase) → plain_timed q e phase
 timed-all q e phases.Begin not_drained h = h
 timed-all q e (phases.Access r) not_drained h = h
 timed-all q e phases.Stopped not_drained h = h
@@ -125,7 +125,7 @@ module _ (image : ImageValue) (core cores : ℕ) (state : CoreState) (executed c
   pub timed-begun : (phase after : Phase) (new : EngineView) → phase ≡ phases.Begin → after ≢ phases.Drained → new.executed + under_way after ≡ executed + 1 → IsSound new
       → plain_timed p (before phase) phase → Paces fetched reply (before phase) p q → plain_timed q new after
   timed-begun phases.Begin after new is not_drained used sound timed paces =
-      timed-all q new after not_drained (λ zero. (let was : p.bound ≡ 0 = sym paces.bound ∙ zero in prompt-quiet p q (before phases.Begin) new phases.Begin after fetched reply (timed was) paces was refl (omega (arith, used)) sound))
+      timed-all q new after not_drained (λ zero. (let was : p.bound ≡ 0 = sym paces.bound ∙ zero in unstalled-quiet p q (before phases.Begin) new phases.Begin after fetched reply (timed was) paces was refl (omega (arith, used)) sound))
   timed-begun (phases.Access r) after new is not_drained used sound timed paces = cc
   timed-begun phases.Stopped after new is not_drained used sound timed paces = cc
   timed-begun phases.Drained after new is not_drained used sound timed paces = cc
@@ -145,7 +145,7 @@ module _ (image : ImageValue) (core cores : ℕ) (state : CoreState) (executed c
       → plain_timed p (before phase) phase → Paces fetched reply (before phase) p q → plain_timed q new phases.Begin
   timed-answer (phases.Access r) s word new is came more sound timed paces = λ zero.
       let was : p.bound ≡ 0 = sym paces.bound ∙ zero in
-      prompt-answer p q (before (phases.Access r)) new (phases.Access r) phases.Begin fetched r word (timed was) (rw came at paces) was refl refl refl more sound
+      unstalled-answer p q (before (phases.Access r)) new (phases.Access r) phases.Begin fetched r word (timed was) (rw came at paces) was refl refl refl more sound
   timed-answer phases.Begin s word new is came more sound timed paces = cc
   timed-answer phases.Stopped s word new is came more sound timed paces = cc
   timed-answer phases.Drained s word new is came more sound timed paces = cc

@@ -34,7 +34,7 @@ use Rattle.mem_port.proofs.LoadedLaws.{request-asks}
 use Rattle.mem_port.specs.Engine.{EngineView}
 use Rattle.mem_port.specs.Memory.{MemoryView, IsFresh}
 use Rattle.core_run.specs.Lanes.{at_once, IsStarted, IsClosed}
-use Rattle.core_run.specs.PlainView.{is_live, under_way, wanted_access, in_own_cycles, plain_view, IsPrompt, plain_timed}
+use Rattle.core_run.specs.PlainView.{is_live, under_way, wanted_access, in_own_cycles, plain_view, IsUnstalled, plain_timed}
 use Rattle.core_run.specs.Serial.{EndFits, goes_on, AreInTurns, IsRun, IsEngineOf, IsStartSeat}
 use Rattle.core_run.specs.declared.plain.Plain.{Plain}
 use Rattle.core_run.specs.declared.serial.Seat.{Seat}
@@ -138,7 +138,7 @@ ends-rightly image state ends.Spent phases.Stopped budget cycles executed used l
 ends-rightly image state ends.Spent phases.Drained budget cycles executed used live not_drained took asks fits = absurd (not_drained refl)
 
 -- What a core whose wants were met at once, with these accesses, says of its end.
-pub record IsPromptEnd (image : ImageValue) (stamps : List Stamp) (ended : CoreEnd) : Type 0 where
+pub record IsUnstalledEnd (image : ImageValue) (stamps : List Stamp) (ended : CoreEnd) : Type 0 where
   pub cycles : stamps ≡ in_own_cycles 0 (map entry_in stamps)
   pub rightly : (budget : ℕ) → EndFits ended.end budget ended.cycles (stop image ended.state)
       → EndsRightly ended.end budget ended.cycles (ended.retired + length stamps) (next_of image.code (memory_bytes image) ended.state)
@@ -147,21 +147,21 @@ module _ (image own_image : ImageValue) (core cores own_core own_cores : ℕ) (e
   abbrev seen : Phase → EngineView
   seen phase = plain_view own_image own_core own_cores state executed phase clocks_left
 
-  prompt-end-of : (phase : Phase) → phase ≢ phases.Drained → IsEngineOf image core cores ended (seen phase) → IsPrompt (at_once ended.cycles stamps) (seen phase) phase → IsPromptEnd image stamps ended
-  prompt-end-of phase not_drained is prompt =
-      let used : ended.cycles ≡ ended.retired + length stamps + under_way phase = prompt.clocks ∙ rw is.retired refl in
-      let asks : (r : Request) → wanted_access phase ≡ Some r → request image executed ended.state ≡ Some r = rw (is.image_is, is.state) at prompt.sound.access_next in
+  unstalled-end-of : (phase : Phase) → phase ≢ phases.Drained → IsEngineOf image core cores ended (seen phase) → IsUnstalled (at_once ended.cycles stamps) (seen phase) phase → IsUnstalledEnd image stamps ended
+  unstalled-end-of phase not_drained is unstalled =
+      let used : ended.cycles ≡ ended.retired + length stamps + under_way phase = unstalled.clocks ∙ rw is.retired refl in
+      let asks : (r : Request) → wanted_access phase ≡ Some r → request image executed ended.state ≡ Some r = rw (is.image_is, is.state) at unstalled.sound.access_next in
       record {
-        cycles = prompt.cycles;
+        cycles = unstalled.cycles;
         rightly = λ budget fits. ends-rightly image ended.state ended.end phase budget ended.cycles executed (ended.retired + length stamps) is.live not_drained used asks fits;
       }
 
   -- The end of a core, from its engine.
-  prompt-end : (phase : Phase) → IsEngineOf image core cores ended (seen phase) → plain_timed (at_once ended.cycles stamps) (seen phase) phase → IsPromptEnd image stamps ended
-  prompt-end phases.Begin is timed = prompt-end-of phases.Begin (λ e. cc) is (timed refl)
-  prompt-end (phases.Access r) is timed = prompt-end-of (phases.Access r) (λ e. cc) is (timed refl)
-  prompt-end phases.Stopped is timed = prompt-end-of phases.Stopped (λ e. cc) is (timed refl)
-  prompt-end phases.Drained is timed = cc
+  unstalled-end : (phase : Phase) → IsEngineOf image core cores ended (seen phase) → plain_timed (at_once ended.cycles stamps) (seen phase) phase → IsUnstalledEnd image stamps ended
+  unstalled-end phases.Begin is timed = unstalled-end-of phases.Begin (λ e. cc) is (timed refl)
+  unstalled-end (phases.Access r) is timed = unstalled-end-of (phases.Access r) (λ e. cc) is (timed refl)
+  unstalled-end phases.Stopped is timed = unstalled-end-of phases.Stopped (λ e. cc) is (timed refl)
+  unstalled-end phases.Drained is timed = cc
 
 abbrev pub view_of : Plain → EngineView
 view_of e = plain_view e.image.now e.core e.cores e.state e.executed e.phase e.clocks_left
@@ -189,16 +189,16 @@ all-push P (first ∷ xs) new all here zero x got = all zero x got
 all-push P (first ∷ xs) new all here (suc i) x got = all-push (λ k. P (suc k)) xs new (λ k. all (suc k)) here i x got
 
 -- Each core ended with an engine whose wants were met at once.
-abbrev pub EndsPromptly : ImageValue → ℕ → List Stamp → OutcomeValue → Type 0
-EndsPromptly image cores stamps outcome = (core : ℕ) (ended : CoreEnd) → slice_get outcome.cores core ≡ Some ended
+abbrev pub EndsUnstalled : ImageValue → ℕ → List Stamp → OutcomeValue → Type 0
+EndsUnstalled image cores stamps outcome = (core : ℕ) (ended : CoreEnd) → slice_get outcome.cores core ≡ Some ended
     → (e : Plain) × (IsEngineOf image core cores ended (view_of e) × ((ended.rows.rows ≡ []) × plain_timed (at_once ended.cycles (own_stamps stamps core)) (view_of e) e.phase))
 
 module _ (setup : Setup) (image : ImageValue) (outcome : OutcomeValue) (rounds turn : ℕ) (stamps : List Stamp)
-    (run : IsRun image setup.cores setup.budget None outcome) (turns : AreInTurns rounds turn outcome.items stamps) (each : EndsPromptly image setup.cores stamps outcome) where
-  end-at : (core : ℕ) (ended : CoreEnd) → slice_get outcome.cores core ≡ Some ended → IsPromptEnd image (own_stamps stamps core) ended
+    (run : IsRun image setup.cores setup.budget None outcome) (turns : AreInTurns rounds turn outcome.items stamps) (each : EndsUnstalled image setup.cores stamps outcome) where
+  end-at : (core : ℕ) (ended : CoreEnd) → slice_get outcome.cores core ≡ Some ended → IsUnstalledEnd image (own_stamps stamps core) ended
   end-at core ended got =
       let f = each core ended got in
-      prompt-end image f.0.image.now core setup.cores f.0.core f.0.cores ended f.0.state f.0.executed f.0.clocks_left (own_stamps stamps core) f.0.phase f.1.0 f.1.1.1
+      unstalled-end image f.0.image.now core setup.cores f.0.core f.0.cores ended f.0.state f.0.executed f.0.clocks_left (own_stamps stamps core) f.0.phase f.1.0 f.1.1.1
 
   run-right : IsRight setup image outcome
   run-right = record {
@@ -220,9 +220,9 @@ pub run-fresh : (image : ImageValue) (cores budget : ℕ) (m : MemoryView) (outc
 run-fresh image cores budget m outcome fresh run = rw (fresh.image_is, fresh.cores_are, fresh.caches_are) at run
 
 -- What a run with stamps is.
-pub run-prompt : (setup : Setup) (image : ImageValue) (m : MemoryView) (outcome : OutcomeValue) → IsFresh image setup.cores setup.budget None m → IsRun m.image m.cores setup.budget m.caches outcome
-    → ((stamps : List Stamp) × (AreInTurns setup.budget 0 outcome.items stamps × EndsPromptly m.image m.cores stamps outcome)) → IsRight setup image outcome × IsInTurns (entries outcome.items)
-run-prompt setup image m outcome fresh run timed =
+pub run-unstalled : (setup : Setup) (image : ImageValue) (m : MemoryView) (outcome : OutcomeValue) → IsFresh image setup.cores setup.budget None m → IsRun m.image m.cores setup.budget m.caches outcome
+    → ((stamps : List Stamp) × (AreInTurns setup.budget 0 outcome.items stamps × EndsUnstalled m.image m.cores stamps outcome)) → IsRight setup image outcome × IsInTurns (entries outcome.items)
+run-unstalled setup image m outcome fresh run timed =
     let each = rw (fresh.image_is, fresh.cores_are) at timed.1.1 in
     let same = run-fresh image setup.cores setup.budget m outcome fresh run in
     (run-right setup image outcome setup.budget 0 timed.0 same timed.1.0 each, run-turns setup image outcome setup.budget 0 timed.0 same timed.1.0 each)

@@ -60,7 +60,7 @@ in_own_cycles earlier (entry ∷ entries) =
 
 -- Where its wants are met at once, it has used a clock for each instruction, a second one for each access, and those of
 -- the one under way; and it made each access in its cycle.
-pub record IsPrompt (pace : Pace) (e : EngineView) (phase : Phase) : Type 0 where
+pub record IsUnstalled (pace : Pace) (e : EngineView) (phase : Phase) : Type 0 where
   pub fetch_left : pace.fetch_left ≤ 0
   pub access_left : pace.access_left ≤ 0
   pub clocks : pace.clocks ≡ e.executed + length pace.accesses + under_way phase
@@ -70,4 +70,4 @@ pub record IsPrompt (pace : Pace) (e : EngineView) (phase : Phase) : Type 0 wher
 -- What it tells of its times; where its budget ended while it waited, nothing else.
 abbrev pub plain_timed : Pace → EngineView → Phase → Type 0
 plain_timed pace e Drained = pace.is_drained ≡ true
-plain_timed pace e phase = pace.bound ≡ 0 → IsPrompt pace e phase
+plain_timed pace e phase = pace.bound ≡ 0 → IsUnstalled pace e phase

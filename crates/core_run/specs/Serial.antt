@@ -138,12 +138,12 @@ AreFirst {E} view image cores budget seats = (core : ℕ) (s : Seat E) → slice
     → IsStartSeat image core cores budget (view s.engine) s.lane s.end s.cycles
 
 -- The wants of each core were met at once, and its own accesses stand in their cycles among these.
-abbrev pub ArePrompt : {E : Type 0} → (E → EngineView) → (Pace → E → Type 0) → List Stamp → List (Seat E) → Type 0
-ArePrompt {E} view timed stamps seats = (core : ℕ) (s : Seat E) → slice_get seats core ≡ Some s
+abbrev pub AreUnstalled : {E : Type 0} → (E → EngineView) → (Pace → E → Type 0) → List Stamp → List (Seat E) → Type 0
+AreUnstalled {E} view timed stamps seats = (core : ℕ) (s : Seat E) → slice_get seats core ≡ Some s
     → IsPunctual (view s.engine) s.lane s.end × timed (at_once s.cycles (own_stamps stamps core)) s.engine
 
 -- So it was until the end of each core, whose engine also left these rows.
-abbrev pub EndPromptly : {E : Type 0} → (E → EngineView) → (E → List TimeRow) → (Pace → E → Type 0) → ImageValue → ℕ → List Stamp → List CoreEnd → Type 0
-EndPromptly {E} view rows timed image cores stamps ends = (core : ℕ) (ended : CoreEnd) → slice_get ends core ≡ Some ended
+abbrev pub EndUnstalled : {E : Type 0} → (E → EngineView) → (E → List TimeRow) → (Pace → E → Type 0) → ImageValue → ℕ → List Stamp → List CoreEnd → Type 0
+EndUnstalled {E} view rows timed image cores stamps ends = (core : ℕ) (ended : CoreEnd) → slice_get ends core ≡ Some ended
     → (e : E) × (IsEngineOf image core cores ended (view e)
     × ((ended.rows.rows ≡ rows e) × timed (at_once ended.cycles (own_stamps stamps core)) e))

@@ -7,7 +7,7 @@ ghost use Rattle.mem_port.specs.Memory.{IsLawful, IsFresh, IsAtOnce, Keeps};
 ghost use Rattle.mem_port.specs.Side.{LeavesOthers, ServesCore};
 ghost use Rattle.core_run.specs.Lanes.{IsClosed, at_once};
 ghost use Rattle.timetable.specs.declared.End.{End};
-ghost use Rattle.core_run.specs.Serial.{SeatAt, IsRun, IsPunctual, AddsOwn, AreInTurns, AreAt, AreFirst, ArePrompt, EndPromptly, IsEndOf, end_after};
+ghost use Rattle.core_run.specs.Serial.{SeatAt, IsRun, IsPunctual, AddsOwn, AreInTurns, AreAt, AreFirst, AreUnstalled, EndUnstalled, IsEndOf, end_after};
 ghost use Rattle.core_run.specs.declared.serial.Seat.{Seat};
 
 use crate::lane::{cycle, finish};
@@ -98,9 +98,9 @@ fn play_round<E: TimedEngine, M: MemoryCore>(memory: &mut M, seats: &mut Vec<Sea
     ensures timed { (rounds : ℕ) (stamps : List Stamp) → IsAtOnce (M.view memory.old)
         → AreAt E.view rounds budget (M.view memory.old) seats.old.items
         → AreInTurns rounds 0 (M.view memory.old).history stamps
-        → ArePrompt E.view E.timed stamps seats.old.items
+        → AreUnstalled E.view E.timed stamps seats.old.items
         → (after : List Stamp) × (AreInTurns (rounds + 1) 0 (M.view memory.new).history after
-        × ArePrompt E.view E.timed after seats.new.items) }
+        × AreUnstalled E.view E.timed after seats.new.items) }
 {
     for place in 0..seats.len() {
         let seat = &mut seats[place];
@@ -119,9 +119,9 @@ fn play_all<E: TimedEngine, M: MemoryCore>(memory: &mut M, seats: &mut Vec<Seat<
     ensures kept { Keeps (M.view memory.old) (M.view memory.new) }
     ensures timed { (stamps : List Stamp) → IsAtOnce (M.view memory.old)
         → AreInTurns 0 0 (M.view memory.old).history stamps
-        → ArePrompt E.view E.timed stamps seats.old.items
+        → AreUnstalled E.view E.timed stamps seats.old.items
         → (after : List Stamp) × (AreInTurns budget 0 (M.view memory.new).history after
-        × ArePrompt E.view E.timed after seats.new.items) }
+        × AreUnstalled E.view E.timed after seats.new.items) }
 {
     for _ in 0..budget {
         play_round(memory, seats, budget);
@@ -175,7 +175,7 @@ pub fn run_seats<E: TimedEngine, M: MemoryCore>(
     ensures timed { IsAtOnce (M.view memory)
         → ((core : ℕ) (s : Seat E) → slice_get seats.items core ≡ Some s → E.timed (at_once 0 []) s.engine)
         → (stamps : List Stamp) × (AreInTurns budget 0 result.items stamps
-        × EndPromptly E.view E.rows E.timed (M.view memory).image (M.view memory).cores stamps result.cores) }
+        × EndUnstalled E.view E.rows E.timed (M.view memory).image (M.view memory).cores stamps result.cores) }
 {
     play_all(&mut memory, &mut seats, budget);
     gather(alloc, seats, &mut ends);

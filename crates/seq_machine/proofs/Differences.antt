@@ -8,8 +8,8 @@ use Rattle.mips_isa.specs.declared.Access.{Access}
 use Rattle.access_log.specs.declared.Core.{Core}
 use Rattle.access_log.specs.Memory.{due, is_same, kind_number, is_same_word}
 use Rattle.access_log.proofs.EntryLaws.{same_kind, same_word, same_fields, is_same-true, is_same-same, is_same_word-same}
-use Rattle.seq_machine.specs.declared.Field.{Field}
-use Rattle.seq_machine.specs.declared.Found.{Found}
+use Rattle.access_log.specs.declared.field.Field.{Field}
+use Rattle.access_log.specs.declared.field.Found.{Found}
 use Rattle.seq_machine.specs.Differences.{first_difference}
 
 -- where nothing is told, the test passed, and the rest tells nothing

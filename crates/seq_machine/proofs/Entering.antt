@@ -11,8 +11,8 @@ use Rattle.access_log.specs.Memory.{due, after, is_same}
 use Rattle.access_log.specs.Replay.{FlatMachine, memory_bytes, with_core, next_in, finished, core_at, entered, entered_by}
 use Rattle.access_log.proofs.ReplayLaws.{and_then_parts, where_true}
 use Rattle.access_log.proofs.ItemLaws.{length-after}
-use Rattle.seq_machine.specs.declared.Field.{Field}
-use Rattle.seq_machine.specs.declared.Found.{Found}
+use Rattle.access_log.specs.declared.field.Field.{Field}
+use Rattle.access_log.specs.declared.field.Found.{Found}
 use Rattle.seq_machine.specs.declared.Reach.{Reach}
 use Rattle.seq_machine.specs.declared.Reach.TheVariants.{There, StopAt, Passed}
 use Rattle.seq_machine.specs.Reaching.{CatchesUp}

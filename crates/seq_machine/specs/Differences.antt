@@ -8,10 +8,10 @@ use Rattle.access_log.specs.Memory.{due, kind_number, is_same_word}
 use Rattle.access_log.specs.Replay.{FlatMachine, next_in}
 use Rattle.seq_machine.specs.declared.Reach.{Reach}
 use Rattle.seq_machine.specs.declared.Reach.TheVariants.{There, AccessAt, StopAt, Passed}
-use Rattle.seq_machine.specs.declared.Field.{Field}
-use Rattle.seq_machine.specs.declared.Field.TheVariants as fields
-use Rattle.seq_machine.specs.declared.Found.{Found}
-use Rattle.seq_machine.specs.declared.Found.TheVariants as founds
+use Rattle.access_log.specs.declared.field.Field.{Field}
+use Rattle.access_log.specs.declared.field.Field.TheVariants as fields
+use Rattle.access_log.specs.declared.field.Found.{Found}
+use Rattle.access_log.specs.declared.field.Found.TheVariants as founds
 use Rattle.seq_machine.specs.declared.Differs.{Differs}
 use Rattle.seq_machine.specs.Reaching.{CatchesUp}
 

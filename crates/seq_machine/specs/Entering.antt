@@ -7,8 +7,8 @@ use Rattle.access_log.specs.declared.Core.{Core}
 use Rattle.access_log.specs.declared.Entry.{Entry}
 use Rattle.access_log.specs.Memory.{due, after, is_same}
 use Rattle.access_log.specs.Replay.{FlatMachine, next_in, finished, entered_by}
-use Rattle.seq_machine.specs.declared.Field.{Field}
-use Rattle.seq_machine.specs.declared.Found.{Found}
+use Rattle.access_log.specs.declared.field.Field.{Field}
+use Rattle.access_log.specs.declared.field.Found.{Found}
 use Rattle.seq_machine.specs.Differences.{difference_at}
 
 -- Its core makes it where no difference is told; where one is, core and memory are as they were.

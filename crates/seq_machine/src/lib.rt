@@ -6,10 +6,9 @@
 
 mod machine;
 
-use access_log::Entry;
+use access_log::{Entry, Field, Found};
 pub use image_file::NoMemory;
 pub use machine::Machine;
-use mips_isa::Kind;
 
 /// Where a core stands that was to catch up to so many executed instructions.
 #[derive(Clone, Copy, Debug, PartialEq, Eq)]
@@ -22,28 +21,6 @@ pub enum Reach {
     StopAt(u32),
     /// It had executed this number before, which is more. It is where it was.
     Passed(u32),
-}
-
-/// A field of an entry, in the order in which they are compared.
-#[derive(Clone, Copy, Debug, PartialEq, Eq)]
-pub enum Field {
-    Nth,
-    Kind,
-    Addr,
-    Old,
-    New,
-}
-
-/// What is due in a field.
-#[derive(Clone, Copy, Debug, PartialEq, Eq)]
-pub enum Found {
-    /// A number of executed instructions.
-    Number(u64),
-    /// A word, or an address in bytes.
-    Hex(u32),
-    Kind(Kind),
-    /// No access of this number, or no word that is stored.
-    Nothing,
 }
 
 /// The first field of an entry that differs from the access that is due.

@@ -10,8 +10,8 @@ ghost use Rattle.seq_machine.specs.Reaching.{Reaches, CatchesUp};
 ghost use Rattle.seq_machine.specs.Differences.{DiffersFirst, found_new, first_difference};
 ghost use Rattle.seq_machine.specs.Entering.{Enters, EntersIn};
 
-use crate::{Differs, Field, Found, NoMemory, Reach};
-use access_log::{Core, Entry, due, store};
+use crate::{Differs, NoMemory, Reach};
+use access_log::{Core, Entry, Field, Found, due, store};
 use image_file::{Image, start_memory};
 use mips_isa::{CoreState, Next, Stop, steps};
 use std::alloc::Global;

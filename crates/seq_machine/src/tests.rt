@@ -1,8 +1,8 @@
 //! A program that makes one compare and swap.
 ghost use Rattle.std.specs.Prelude.{◌≡◌, ◌≤◌, length, IfOk};
 
-use crate::{Differs, Field, Found, Machine, Reach};
-use access_log::Entry;
+use crate::{Differs, Machine, Reach};
+use access_log::{Entry, Field, Found};
 use image_file::read_image;
 use mips_isa::{Kind, Stop};
 use std::alloc::Global;

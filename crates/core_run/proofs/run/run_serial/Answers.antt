@@ -1,5 +1,5 @@
 use Rattle.std.proofs.Common.{arith}
-use Rattle.core_run.proofs.RunLaws.{run-fresh, run-prompt}
+use Rattle.core_run.proofs.RunLaws.{run-fresh, run-unstalled}
 use Rattle.core_run.proofs.run.run_serial.Goals as goal
 
 pub run_seats-requires-clause-seats : goal.run_seats-requires-clause-seats
@@ -7,12 +7,12 @@ run_seats-requires-clause-seats c core s got = rw (c.in_ok-memory.ensures.fresh.
 
 pub returns-clause-right : goal.returns-clause-right
 returns-clause-right c =
-    (run-prompt c.args.setup.now c.args.image.now _ c.run_seats.result c.in_ok-memory.ensures.fresh c.run_seats.ensures.run
+    (run-unstalled c.args.setup.now c.args.image.now _ c.run_seats.result c.in_ok-memory.ensures.fresh c.run_seats.ensures.run
     (c.run_seats.ensures.timed c.in_ok-memory.ensures.at_once c.in_ok-seats.ensures.timed)).0
 
 pub returns-clause-turns : goal.returns-clause-turns
 returns-clause-turns c =
-    (run-prompt c.args.setup.now c.args.image.now _ c.run_seats.result c.in_ok-memory.ensures.fresh c.run_seats.ensures.run
+    (run-unstalled c.args.setup.now c.args.image.now _ c.run_seats.result c.in_ok-memory.ensures.fresh c.run_seats.ensures.run
     (c.run_seats.ensures.timed c.in_ok-memory.ensures.at_once c.in_ok-seats.ensures.timed)).1
 
 pub returns-clause-within : goal.returns-clause-within

@@ -1,0 +1,81 @@
+//! The fields of a report's rows, and what stands in them.
+use crate::Letter;
+use mips_isa::{Kind, Stop};
+
+/// A field of a row, in the order in which the fields of its row are compared.
+#[derive(Clone, Copy, Debug, PartialEq, Eq)]
+pub enum Field {
+    /// Of an access: the number of instructions that its core executed before.
+    Nth,
+    /// Load, store or compare and swap.
+    Kind,
+    /// The access's address.
+    Addr,
+    /// What memory had there.
+    Old,
+    /// What was stored there.
+    New,
+    /// Of an access over caches: how the core's data cache holds the line.
+    Letter,
+    /// Of a transaction: the intent to modify.
+    Im,
+    /// The line that was wanted.
+    Line,
+    /// How the master held it before.
+    Held,
+    /// The caches that held it beside the master.
+    Ch,
+    /// The cache that intervened.
+    Di,
+    /// The line that the master dropped.
+    Victim,
+    /// Of the end of a core: the number of instructions that it executed.
+    Retired,
+    /// Why it went no further.
+    End,
+    /// The cycles that it took.
+    Cycles,
+    /// The number of rows of its timetable.
+    Rows,
+    Pc,
+    Dpc,
+    /// A register of a core.
+    Register,
+    /// A word of memory.
+    Word,
+    /// Of a timetable: the cycle in which an instruction's word was taken.
+    I,
+    /// In which it left the stage of the fetch.
+    F,
+    /// In which it left the stage of decoding.
+    D,
+    /// In which it left the stage of execution.
+    E,
+    /// In which the answer to its access was taken.
+    A,
+    /// In which it left the stage of memory.
+    M,
+    /// In which it left the last stage.
+    W,
+    /// A count.
+    Count,
+}
+
+/// What stands in a field, or is due there.
+#[derive(Clone, Copy, Debug, PartialEq, Eq)]
+pub enum Found {
+    /// A number in decimal.
+    Number(u64),
+    /// A word, or an address in bytes.
+    Hex(u32),
+    Kind(Kind),
+    Letter(Letter),
+    /// A stop; none for a spent budget.
+    End(Option<Stop>),
+    /// An address in bytes, and the word there.
+    Word(u32, u32),
+    /// A set of caches: bit k stands for cache k.
+    Set(u16),
+    /// Nothing.
+    Nothing,
+}
