@@ -1,0 +1,209 @@
+-- The rows of a report are plain, so they can be told from its text.
+use Rattle.std.proofs.Common.{◌≡◌, ℕ, zero, suc, ◌^◌, ◌<◌, ◌≤◌, true, List, [], ◌∷◌, ◌++◌, take, drop, map, refl, arith}
+use Rattle.std.specs.Prelude.{codes, slice_index}
+use Rattle.std.specs.List.{AllByRecursion}
+use Rattle.kmp_base.specs.Text.{hex8}
+use Rattle.kmp_base.specs.declared.setup.Setup.{Setup}
+use Rattle.kmp_base.specs.declared.setup.MachineKind.{MachineKind}
+use Rattle.kmp_base.specs.declared.setup.MachineKind.TheVariants as machines
+use Rattle.kmp_base.specs.declared.setup.Policy.{Policy}
+use Rattle.kmp_base.specs.declared.setup.Policy.TheVariants as policies
+use Rattle.kmp_base.specs.declared.setup.Turns.{Turns}
+use Rattle.kmp_base.specs.declared.setup.Turns.TheVariants as turns
+use Rattle.mips_isa.specs.declared.Kind.{Kind}
+use Rattle.mips_isa.specs.declared.Kind.TheVariants as kinds
+use Rattle.mips_isa.specs.declared.Stop.TheVariants as stops
+use Rattle.access_log.specs.declared.Entry.{Entry}
+use Rattle.access_log.specs.declared.Item.{Item}
+use Rattle.access_log.specs.declared.Item.TheVariants.{Done, Bus}
+use Rattle.timetable.specs.declared.End.{End}
+use Rattle.timetable.specs.declared.End.TheVariants as ends
+use Rattle.row_reader.specs.Rows.{IsPlain, IsPlainRow}
+use Rattle.row_reader.proofs.PlainLaws.{passes, plain_by_test, decimal_plain, hex8_plain, bytes_plain, word_or_dash_plain}
+use Rattle.report_rows.specs.declared.MemoryWord.{MemoryWord}
+use Rattle.report_rows.specs.Ends.{EndValue}
+use Rattle.report_rows.specs.Names.{machine_name, policy_name, turns_name, kind_name, end_name}
+use Rattle.report_rows.specs.Bounds.{IsHeader, IsEntry, IsItem, IsEnd, IsCount}
+use Rattle.report_rows.specs.Rows.{word_row, number_row, bytes_row, entry_row, item_row, core_row, registers_row, memory_row, count_row, header_rows, core_rows, access_count_rows, bus_count_rows, wait_count_rows}
+
+-- ---- names
+
+machine_passes : (machine : MachineKind) → passes (machine_name machine) ≡ true
+machine_passes machines.Plain = refl
+machine_passes machines.Pipe = refl
+machine_passes machines.Full = refl
+
+policy_passes : (policy : Policy) → passes (policy_name policy) ≡ true
+policy_passes policies.Fifo = refl
+policy_passes policies.Fixed = refl
+policy_passes policies.Round = refl
+policy_passes policies.Seeded = refl
+
+turns_passes : (order : Turns) → passes (turns_name order) ≡ true
+turns_passes turns.Round = refl
+turns_passes turns.Seeded = refl
+turns_passes turns.Threads = refl
+
+kind_passes : (kind : Kind) → passes (kind_name kind) ≡ true
+kind_passes kinds.Fetch = refl
+kind_passes kinds.Lw = refl
+kind_passes kinds.Sw = refl
+kind_passes kinds.Cas = refl
+
+end_passes : (end : End) → passes (end_name end) ≡ true
+end_passes (ends.Stopped stops.OffCode) = refl
+end_passes (ends.Stopped stops.Halt) = refl
+end_passes (ends.Stopped stops.Misaligned) = refl
+end_passes (ends.Stopped stops.Outside) = refl
+end_passes (ends.Stopped stops.CodeWrite) = refl
+end_passes ends.Spent = refl
+
+-- ---- single rows
+
+word_row_plain : (name word : List ℕ) → passes name ≡ true → passes word ≡ true → IsPlainRow (word_row name word)
+word_row_plain name word n w = (plain_by_test name n, (plain_by_test word w, tt))
+
+pub number_row_plain : (name : List ℕ) (n : ℕ) → IsPlain name → n < 2 ^ 64 → IsPlainRow (number_row name n)
+number_row_plain name n is small = (is, (decimal_plain n small, tt))
+
+pub bytes_row_plain : (bytes : List ℕ) → IsPlainRow (bytes_row bytes)
+bytes_row_plain bytes = (plain_by_test (codes "I") refl, (bytes_plain bytes, tt))
+
+pub entry_plain : (cores bytes : ℕ) (entry : Entry) → cores ≤ 8 → IsEntry cores bytes entry → IsPlainRow (entry_row entry)
+entry_plain cores bytes entry few is = (
+  plain_by_test (codes "A") refl,
+  (
+    decimal_plain entry.core (omega (arith, is.core)),
+    (
+      decimal_plain entry.nth (omega (arith, is.nth)),
+      (plain_by_test (kind_name entry.kind) (kind_passes entry.kind), (hex8_plain entry.addr, (hex8_plain entry.old, (word_or_dash_plain entry.new, tt)))),
+    ),
+  ),
+)
+
+pub item_plain : (cores bytes : ℕ) (item : Item) → cores ≤ 8 → IsItem cores bytes item → IsPlainRow (item_row item)
+item_plain cores bytes (Done entry) few is = entry_plain cores bytes entry few is
+item_plain cores bytes (Bus transaction) few is = absurd is
+
+pub memory_plain : (word : MemoryWord) → IsPlainRow (memory_row word)
+memory_plain word = (plain_by_test (codes "W") refl, (hex8_plain word.addr, (hex8_plain word.value, tt)))
+
+-- ---- rows that stand together
+
+pub header_plain : (setup : Setup) → IsHeader setup → AllByRecursion IsPlainRow (header_rows setup)
+unfolding header_rows
+header_plain setup is = (
+  word_row_plain (codes "kmp-report") (codes "1") refl refl,
+  (
+    word_row_plain (codes "machine") (machine_name setup.machine) refl (machine_passes setup.machine),
+    (
+      number_row_plain (codes "cores") setup.cores (plain_by_test (codes "cores") refl) (omega (arith, is.limits.cores)),
+      (
+        number_row_plain (codes "budget") setup.budget (plain_by_test (codes "budget") refl) (omega (arith, is.limits.budget)),
+        (
+          word_row_plain (codes "arbitration") (policy_name setup.policy) refl (policy_passes setup.policy),
+          (
+            word_row_plain (codes "turns") (turns_name setup.turns) refl (turns_passes setup.turns),
+            (
+              number_row_plain (codes "seed") setup.seed (plain_by_test (codes "seed") refl) (omega (arith, is.seed)),
+              (
+                number_row_plain (codes "sets") setup.sets (plain_by_test (codes "sets") refl) (omega (arith, is.limits.sets)),
+                (
+                  number_row_plain (codes "ways") setup.ways (plain_by_test (codes "ways") refl) (omega (arith, is.limits.ways)),
+                  tt,
+                ),
+              ),
+            ),
+          ),
+        ),
+      ),
+    ),
+  ),
+)
+
+words_plain : (words : List ℕ) → AllByRecursion IsPlain (map hex8 words)
+words_plain [] = tt
+words_plain (word ∷ words) = (hex8_plain word, words_plain words)
+
+registers_plain : (core first : ℕ) (regs : List ℕ) → core < 2 ^ 64 → first < 2 ^ 64 → IsPlainRow (registers_row core first regs)
+registers_plain core first regs small early =
+    (plain_by_test (codes "R") refl, (decimal_plain core small, (decimal_plain first early, words_plain (take 8 (drop first regs)))))
+
+pub core_rows_plain : (core budget : ℕ) (ended : EndValue) → core < 2 ^ 64 → budget < 2 ^ 64 → IsEnd budget ended → AllByRecursion IsPlainRow (core_rows core ended)
+unfolding core_rows
+core_rows_plain core budget ended small few is =
+    let row : IsPlainRow (core_row core ended) = (
+      plain_by_test (codes "C") refl,
+      (
+        decimal_plain core small,
+        (
+          plain_by_test (end_name ended.end) (end_passes ended.end),
+          (
+            decimal_plain ended.cycles (omega (arith, is.cycles)),
+            (decimal_plain ended.retired (omega (arith, is.retired)), (hex8_plain ended.state.pc, (hex8_plain ended.state.dpc, tt))),
+          ),
+        ),
+      ),
+    ) in (
+      row,
+      (
+        registers_plain core 0 ended.state.regs small (omega arith),
+        (
+          registers_plain core 8 ended.state.regs small (omega arith),
+          (
+            registers_plain core 16 ended.state.regs small (omega arith),
+            (registers_plain core 24 ended.state.regs small (omega arith), tt),
+          ),
+        ),
+      ),
+    )
+
+count_at : (counts : List ℕ) → AllByRecursion IsCount counts → (k : ℕ) → IsCount (slice_index counts k)
+count_at [] are k = omega arith
+count_at (count ∷ counts) are zero = are.0
+count_at (count ∷ counts) are (suc k) = count_at counts are.1 k
+
+count_row_plain : (name counts : List ℕ) (k : ℕ) → passes name ≡ true → AllByRecursion IsCount counts → IsPlainRow (count_row name (slice_index counts k))
+count_row_plain name counts k plain are =
+    (plain_by_test (codes "N") refl, (plain_by_test name plain, (decimal_plain (slice_index counts k) (count_at counts are k), tt)))
+
+pub count_rows_plain : (counts : List ℕ) → AllByRecursion IsCount counts
+    → AllByRecursion IsPlainRow (access_count_rows counts ++ bus_count_rows counts ++ wait_count_rows counts)
+unfolding access_count_rows bus_count_rows wait_count_rows
+count_rows_plain counts are = (
+  count_row_plain (codes "retired") counts 0 refl are,
+  (
+    count_row_plain (codes "loads") counts 1 refl are,
+    (
+      count_row_plain (codes "stores") counts 2 refl are,
+      (
+        count_row_plain (codes "cas") counts 3 refl are,
+        (
+          count_row_plain (codes "swapped") counts 4 refl are,
+          (
+            count_row_plain (codes "transactions") counts 5 refl are,
+            (
+              count_row_plain (codes "exclusive") counts 6 refl are,
+              (
+                count_row_plain (codes "owned") counts 7 refl are,
+                (
+                  count_row_plain (codes "upgrades") counts 8 refl are,
+                  (
+                    count_row_plain (codes "flushes") counts 9 refl are,
+                    (
+                      count_row_plain (codes "wait-fetch") counts 10 refl are,
+                      (
+                        count_row_plain (codes "wait-operand") counts 11 refl are,
+                        (count_row_plain (codes "wait-access") counts 12 refl are, tt),
+                      ),
+                    ),
+                  ),
+                ),
+              ),
+            ),
+          ),
+        ),
+      ),
+    ),
+  ),
+)

@@ -1,0 +1,74 @@
+-- What the rows of a report may say.
+use Rattle.std.specs.Prelude.{◌≡◌, ◌≢◌, ℕ, ◌+◌, ◌%◌, ◌^◌, ◌<◌, ◌≤◌, List, [], ◌∷◌, length, IfSome}
+use Rattle.std.specs.List.{AllByRecursion}
+use Rattle.kmp_base.specs.declared.setup.Setup.{Setup}
+use Rattle.kmp_base.specs.declared.setup.MachineKind.TheVariants.{Plain}
+use Rattle.kmp_base.specs.Limits.{IsWithinLimits}
+use Rattle.mips_isa.specs.declared.Kind.TheVariants.{Fetch}
+use Rattle.access_log.specs.declared.Entry.{Entry}
+use Rattle.access_log.specs.declared.Item.{Item}
+use Rattle.access_log.specs.declared.Item.TheVariants.{Done, Bus}
+use Rattle.report_rows.specs.declared.MemoryWord.{MemoryWord}
+use Rattle.report_rows.specs.Ends.{EndValue}
+
+-- eight hexadecimal digits spell it
+abbrev pub IsWord : ℕ → Type 0
+IsWord n = n < 2 ^ 32
+
+abbrev pub IsByte : ℕ → Type 0
+IsByte n = n < 2 ^ 8
+
+-- more than any number of instructions or cycles, which a budget bounds
+abbrev pub IsTime : ℕ → Type 0
+IsTime n = n ≤ 100002
+
+-- The header: a machine whose reports are read, and numbers within their limits.
+pub record IsHeader (setup : Setup) : Type 0 where
+  pub machine : setup.machine ≡ Plain
+  pub limits : IsWithinLimits setup
+  pub seed : IsWord setup.seed
+
+-- An address of a word within so many bytes of memory.
+pub record IsPlace (bytes addr : ℕ) : Type 0 where
+  pub aligned : addr % 4 ≡ 0
+  pub inside : addr < bytes
+
+-- An access of one of so many cores.
+pub record IsEntry (cores bytes : ℕ) (entry : Entry) : Type 0 where
+  pub core : entry.core < cores
+  pub nth : IsTime entry.nth
+  pub kind : entry.kind ≢ Fetch
+  pub addr : IsPlace bytes entry.addr
+  pub old : IsWord entry.old
+  pub new : IfSome entry.new IsWord
+
+-- Unpipelined cores over flat memory make accesses, and no transaction.
+abbrev pub IsItem : ℕ → ℕ → Item → Type 0
+IsItem cores bytes (Done entry) = IsEntry cores bytes entry
+IsItem cores bytes (Bus transaction) = ⊥
+
+-- The end of a core within its budget. An unpipelined core has no timetable.
+pub record IsEnd (budget : ℕ) (ended : EndValue) : Type 0 where
+  pub cycles : ended.cycles ≤ budget
+  pub retired : IsTime ended.retired
+  pub pc : IsWord ended.state.pc
+  pub dpc : IsWord ended.state.dpc
+  pub registers : length ended.state.regs ≡ 32
+  pub words : AllByRecursion IsWord ended.state.regs
+  pub no_rows : ended.rows ≡ []
+
+-- A memory word at an address from `low` on, that isn't 0.
+pub record IsMemoryWord (bytes low : ℕ) (word : MemoryWord) : Type 0 where
+  pub addr : IsPlace bytes word.addr
+  pub from : low ≤ word.addr
+  pub some : 1 ≤ word.value
+  pub value : IsWord word.value
+
+-- Memory words by rising address, from `low` on.
+abbrev pub AreMemoryWords : ℕ → ℕ → List MemoryWord → Type 0
+AreMemoryWords bytes low [] = Unit {0}
+AreMemoryWords bytes low (word ∷ words) = IsMemoryWord bytes low word × AreMemoryWords bytes (word.addr + 4) words
+
+-- a count of 64 bits
+abbrev pub IsCount : ℕ → Type 0
+IsCount n = n < 2 ^ 64

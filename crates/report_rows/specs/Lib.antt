@@ -1,0 +1,5 @@
+pub mod Names
+pub mod Ends
+pub mod Rows
+pub mod Bounds
+pub mod Reading

@@ -1,0 +1,120 @@
+-- The rows of a report, each as the list of its parts.
+use Rattle.std.specs.Prelude.{ℕ, ◌*◌, List, [], ◌∷◌, take, drop, map, codes, decimal, slice_index, Option, Some, None}
+use Rattle.hex.specs.Hex.{encode_lower}
+use Rattle.kmp_base.specs.Text.{hex8, hex4}
+use Rattle.kmp_base.specs.declared.setup.Setup.{Setup}
+use Rattle.access_log.specs.declared.Entry.{Entry}
+use Rattle.access_log.specs.declared.Transaction.{Transaction}
+use Rattle.access_log.specs.declared.Item.{Item}
+use Rattle.access_log.specs.declared.Item.TheVariants.{Done, Bus}
+use Rattle.row_reader.specs.Numbers.{word_or_dash}
+use Rattle.report_rows.specs.declared.MemoryWord.{MemoryWord}
+use Rattle.report_rows.specs.Ends.{EndValue}
+use Rattle.report_rows.specs.Names.{machine_name, policy_name, turns_name, kind_name, letter_name, end_name, bit_name}
+
+-- a number, or `-` for none
+abbrev pub number_or_dash : Option ℕ → List ℕ
+number_or_dash None = codes "-"
+number_or_dash (Some n) = decimal n
+
+-- a name and a word
+abbrev pub word_row : List ℕ → List ℕ → List (List ℕ)
+word_row name word = name ∷ word ∷ []
+
+-- a name and a number
+abbrev pub number_row : List ℕ → ℕ → List (List ℕ)
+number_row name n = name ∷ decimal n ∷ []
+
+-- bytes of the image
+abbrev pub bytes_row : List ℕ → List (List ℕ)
+bytes_row bytes = codes "I" ∷ encode_lower bytes ∷ []
+
+-- the 32 bytes of the image from place 32 k on, or as many as there are
+abbrev pub image_row : List ℕ → ℕ → List (List ℕ)
+image_row bytes k = bytes_row (take 32 (drop (32 * k) bytes))
+
+-- an access
+abbrev pub entry_row : Entry → List (List ℕ)
+entry_row entry =
+    codes "A" ∷ decimal entry.core ∷ decimal entry.nth ∷ kind_name entry.kind
+    ∷ hex8 entry.addr ∷ hex8 entry.old ∷ word_or_dash entry.new ∷ []
+
+-- a transaction of the bus
+abbrev pub transaction_row : Transaction → List (List ℕ)
+transaction_row bus =
+    codes "B" ∷ decimal bus.master ∷ decimal bus.line ∷ bit_name bus.im ∷ hex4 bus.ch
+    ∷ number_or_dash bus.di ∷ number_or_dash bus.victim ∷ letter_name bus.letter ∷ []
+
+abbrev pub item_row : Item → List (List ℕ)
+item_row (Done entry) = entry_row entry
+item_row (Bus transaction) = transaction_row transaction
+
+-- how a core ended
+abbrev pub core_row : ℕ → EndValue → List (List ℕ)
+core_row core ended =
+    codes "C" ∷ decimal core ∷ end_name ended.end ∷ decimal ended.cycles ∷ decimal ended.retired
+    ∷ hex8 ended.state.pc ∷ hex8 ended.state.dpc ∷ []
+
+-- eight registers of a core, from the first
+abbrev pub registers_row : ℕ → ℕ → List ℕ → List (List ℕ)
+registers_row core first regs = codes "R" ∷ decimal core ∷ decimal first ∷ map hex8 (take 8 (drop first regs))
+
+-- a memory word
+abbrev pub memory_row : MemoryWord → List (List ℕ)
+memory_row word = codes "W" ∷ hex8 word.addr ∷ hex8 word.value ∷ []
+
+-- a count
+abbrev pub count_row : List ℕ → ℕ → List (List ℕ)
+count_row name n = codes "N" ∷ name ∷ decimal n ∷ []
+
+-- ---- rows that stand together
+
+-- what was asked for
+unfoldable pub header_rows : Setup → List (List (List ℕ))
+header_rows setup =
+    word_row (codes "kmp-report") (codes "1")
+    ∷ word_row (codes "machine") (machine_name setup.machine)
+    ∷ number_row (codes "cores") setup.cores
+    ∷ number_row (codes "budget") setup.budget
+    ∷ word_row (codes "arbitration") (policy_name setup.policy)
+    ∷ word_row (codes "turns") (turns_name setup.turns)
+    ∷ number_row (codes "seed") setup.seed
+    ∷ number_row (codes "sets") setup.sets
+    ∷ number_row (codes "ways") setup.ways
+    ∷ []
+
+-- a core's end and its registers
+unfoldable pub core_rows : ℕ → EndValue → List (List (List ℕ))
+core_rows core ended =
+    core_row core ended
+    ∷ registers_row core 0 ended.state.regs
+    ∷ registers_row core 8 ended.state.regs
+    ∷ registers_row core 16 ended.state.regs
+    ∷ registers_row core 24 ended.state.regs
+    ∷ []
+
+-- the counts of accesses, of transactions, and of the cycles waited
+unfoldable pub access_count_rows : List ℕ → List (List (List ℕ))
+access_count_rows counts =
+    count_row (codes "retired") (slice_index counts 0)
+    ∷ count_row (codes "loads") (slice_index counts 1)
+    ∷ count_row (codes "stores") (slice_index counts 2)
+    ∷ count_row (codes "cas") (slice_index counts 3)
+    ∷ count_row (codes "swapped") (slice_index counts 4)
+    ∷ []
+
+unfoldable pub bus_count_rows : List ℕ → List (List (List ℕ))
+bus_count_rows counts =
+    count_row (codes "transactions") (slice_index counts 5)
+    ∷ count_row (codes "exclusive") (slice_index counts 6)
+    ∷ count_row (codes "owned") (slice_index counts 7)
+    ∷ count_row (codes "upgrades") (slice_index counts 8)
+    ∷ count_row (codes "flushes") (slice_index counts 9)
+    ∷ []
+
+unfoldable pub wait_count_rows : List ℕ → List (List (List ℕ))
+wait_count_rows counts =
+    count_row (codes "wait-fetch") (slice_index counts 10)
+    ∷ count_row (codes "wait-operand") (slice_index counts 11)
+    ∷ count_row (codes "wait-access") (slice_index counts 12)
+    ∷ []

@@ -1,0 +1,196 @@
+//! What a row of a report says, read from its text.
+ghost use Rattle.std.specs.Prelude.{◌≡◌, ◌+◌, ◌<◌, ◌≤◌, [], ◌∷◌, length, codes, IfSome, Some, None};
+ghost use Rattle.std.specs.Option.{option_copied};
+ghost use Rattle.row_reader.specs.Fields.{parts_of, parts_left};
+ghost use Rattle.report_rows.specs.Reading.{fixed_of, number_row_of, sets_row_of, policy_row_of, turns_row_of, bytes_row_of, entry_row_of, end_row_of, upper_of, registers_row_of, memory_row_of, count_row_of};
+
+use crate::MemoryWord;
+use crate::fields::{
+    end_of, kind_of, number_from, number_name, place_from, place_of, policy_of, sets_of,
+    some_word_of, turns_of,
+};
+use access_log::Entry;
+use kmp_base::{Policy, Turns};
+use row_reader::{Parts, bytes, ended, field, name, number, optional_word, word};
+use timetable::End;
+
+/// How a core ended, without its registers.
+#[derive(Clone, Copy, Debug, PartialEq, Eq)]
+pub struct EndRow {
+    pub end: End,
+    pub cycles: u32,
+    pub retired: u32,
+    pub pc: u32,
+    pub dpc: u32,
+}
+
+/// A row of two parts, these.
+#[tactic(auto, unfolding(crate::specs::Reading::fixed_of))]
+pub fn fixed_row(row: &[u8], first: &[u8], second: &[u8]) -> Option<()>
+    ensures read { result ≡ fixed_of (first.now ∷ second.now ∷ []) (parts_of row.now) }
+{
+    let (_, rest) = name(Some(row), first)?;
+    let (_, rest) = name(rest, second)?;
+    ended((), rest)
+}
+
+/// The last row.
+#[tactic(auto, unfolding(crate::specs::Reading::fixed_of))]
+pub fn last_row(row: &[u8]) -> Option<()>
+    ensures read { result ≡ fixed_of (codes "end" ∷ []) (parts_of row.now) }
+{
+    let (_, rest) = name(Some(row), b"end")?;
+    ended((), rest)
+}
+
+/// A number behind a name.
+#[tactic(auto, unfolding(crate::specs::Reading::number_row_of))]
+pub fn number_row(row: &[u8], title: &[u8], least: u64, most: u64) -> Option<u64>
+    ensures read { result ≡ number_row_of title.now least most (parts_of row.now) }
+    ensures within { IfSome result (λ n. n ≤ most) }
+    ensures some { IfSome result (λ n. least ≤ n) }
+{
+    let (_, rest) = name(Some(row), title)?;
+    let (n, rest) = field(rest, |text| number_from(text, least, most))?;
+    ended(n, rest)
+}
+
+/// The number of sets, a power of two.
+#[tactic(auto, unfolding(crate::specs::Reading::sets_row_of))]
+pub fn sets_row(row: &[u8]) -> Option<u64>
+    ensures read { result ≡ sets_row_of (parts_of row.now) }
+    ensures within { IfSome result (λ n. n ≤ 256) }
+{
+    let (_, rest) = name(Some(row), b"sets")?;
+    let (n, rest) = field(rest, sets_of)?;
+    ended(n, rest)
+}
+
+/// Which waiting cache the bus is granted to.
+#[tactic(auto, unfolding(crate::specs::Reading::policy_row_of))]
+pub fn policy_row(row: &[u8]) -> Option<Policy>
+    ensures read { result ≡ policy_row_of (parts_of row.now) }
+{
+    let (_, rest) = name(Some(row), b"arbitration")?;
+    let (policy, rest) = field(rest, policy_of)?;
+    ended(policy, rest)
+}
+
+/// Whose cycle comes next.
+#[tactic(auto, unfolding(crate::specs::Reading::turns_row_of))]
+pub fn turns_row(row: &[u8]) -> Option<Turns>
+    ensures read { result ≡ turns_row_of (parts_of row.now) }
+{
+    let (_, rest) = name(Some(row), b"turns")?;
+    let (turns, rest) = field(rest, turns_of)?;
+    ended(turns, rest)
+}
+
+/// Bytes of the image, as many as there is room for.
+#[tactic(auto, unfolding(crate::specs::Reading::bytes_row_of))]
+pub fn bytes_row(row: &[u8], into: &mut [u8]) -> Option<()>
+    requires few { length into.old ≤ 32 }
+    ensures found { IfSome result (λ u. bytes_row_of (length into.old) (parts_of row.now) ≡ Some into.new) }
+    ensures none { result ≡ None → bytes_row_of (length into.old) (parts_of row.now) ≡ None }
+    ensures len { length into.new ≡ length into.old }
+{
+    let (_, rest) = name(Some(row), b"I")?;
+    let rest = bytes(rest, into)?;
+    ended((), rest)
+}
+
+/// An access of one of so many cores, at a word within so many bytes.
+#[tactic(auto, unfolding(crate::specs::Reading::entry_row_of))]
+pub fn entry_row(row: &[u8], cores: u32, bytes: u32) -> Option<Entry>
+    requires some { 0 < cores }
+    ensures read { result ≡ entry_row_of cores bytes (parts_of row.now) }
+{
+    let (_, rest) = name(Some(row), b"A")?;
+    let (core, rest) = number(rest, u64::from(cores - 1))?;
+    let (nth, rest) = number(rest, 100002)?;
+    let (kind, rest) = field(rest, kind_of)?;
+    let (addr, rest) = field(rest, |text| place_of(text, bytes))?;
+    let (old, rest) = word(rest)?;
+    let (new, rest) = optional_word(rest)?;
+    let entry = Entry {
+        core: core as u32,
+        nth: nth as u32,
+        kind,
+        addr,
+        old,
+        new,
+    };
+    ended(entry, rest)
+}
+
+/// How a core ended within a budget.
+#[tactic(auto, unfolding(crate::specs::Reading::end_row_of))]
+pub fn end_row(row: &[u8], budget: u32, core: u32) -> Option<EndRow>
+    ensures read { result ≡ end_row_of budget core (parts_of row.now) }
+{
+    let (_, rest) = name(Some(row), b"C")?;
+    let (_, rest) = number_name(rest, u64::from(core))?;
+    let (end, rest) = field(rest, end_of)?;
+    let (cycles, rest) = number(rest, u64::from(budget))?;
+    let (retired, rest) = number(rest, 100002)?;
+    let (pc, rest) = word(rest)?;
+    let (dpc, rest) = word(rest)?;
+    let told = EndRow {
+        end,
+        cycles: cycles as u32,
+        retired: retired as u32,
+        pc,
+        dpc,
+    };
+    ended(told, rest)
+}
+
+/// The last four of eight registers, behind the first four.
+#[tactic(auto, unfolding(crate::specs::Reading::upper_of))]
+fn upper(lower: [u32; 4], rest: Parts) -> Option<[u32; 8]>
+    ensures { result ≡ upper_of lower (parts_left (option_copied rest.entry)) }
+{
+    let (a, rest) = word(rest)?;
+    let (b, rest) = word(rest)?;
+    let (c, rest) = word(rest)?;
+    let (d, rest) = word(rest)?;
+    ended([lower[0], lower[1], lower[2], lower[3], a, b, c, d], rest)
+}
+
+/// Eight registers of a core, from the first.
+#[tactic(auto, unfolding(crate::specs::Reading::registers_row_of))]
+pub fn registers_row(row: &[u8], core: u32, first: u32) -> Option<[u32; 8]>
+    ensures read { result ≡ registers_row_of core first (parts_of row.now) }
+{
+    let (_, rest) = name(Some(row), b"R")?;
+    let (_, rest) = number_name(rest, u64::from(core))?;
+    let (_, rest) = number_name(rest, u64::from(first))?;
+    let (a, rest) = word(rest)?;
+    let (b, rest) = word(rest)?;
+    let (c, rest) = word(rest)?;
+    let (d, rest) = word(rest)?;
+    upper([a, b, c, d], rest)
+}
+
+/// A memory word that isn't 0, at an address from `low` on within so many bytes.
+#[tactic(auto, unfolding(crate::specs::Reading::memory_row_of))]
+pub fn memory_row(row: &[u8], bytes: u32, low: u32) -> Option<MemoryWord>
+    ensures read { result ≡ memory_row_of bytes low (parts_of row.now) }
+    ensures below { IfSome result (λ w. w.addr < bytes) }
+{
+    let (_, rest) = name(Some(row), b"W")?;
+    let (addr, rest) = field(rest, |text| place_from(text, bytes, low))?;
+    let (value, rest) = field(rest, some_word_of)?;
+    ended(MemoryWord { addr, value }, rest)
+}
+
+/// The count of a name.
+#[tactic(auto, unfolding(crate::specs::Reading::count_row_of))]
+pub fn count_row(row: &[u8], key: &[u8]) -> Option<u64>
+    ensures read { result ≡ count_row_of key.now (parts_of row.now) }
+{
+    let (_, rest) = name(Some(row), b"N")?;
+    let (_, rest) = name(rest, key)?;
+    let (n, rest) = number(rest, u64::MAX)?;
+    ended(n, rest)
+}
