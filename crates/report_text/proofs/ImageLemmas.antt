@@ -1,12 +1,10 @@
 -- Numbers as bytes, four for each, and bytes as digits.
-use Rattle.std.proofs.Common.{◌≡◌, ℕ, zero, suc, ◌+◌, ◌*◌, List, [], ◌∷◌, ◌++◌, take, drop, refl, sym, ◌∙◌, ap, arith, take-add, drop-drop}
+use Rattle.std.proofs.Common.{◌≡◌, ℕ, zero, suc, ◌+◌, ◌*◌, List, [], ◌∷◌, ◌++◌, take, drop, refl, sym, ◌∙◌, ap, arith, drop-drop}
 use Rattle.std.specs.List.{flat_map}
 use Rattle.std.specs.Int.{w32, to_le_bytes}
-use Rattle.std.proofs.lemmas.List.Concat.{flat_map-append}
-use Rattle.hex.specs.Hex.{encode_with, encode_lower}
 use Rattle.kmp_base.specs.Rows.{row_text}
 use Rattle.image_file.specs.Value.{ImageValue, image_numbers, image_bytes}
-use Rattle.report_text.specs.Rows.{bytes_row, image_row}
+use Rattle.report_rows.specs.Rows.{bytes_row, image_row}
 
 drop_numbers : (j : ℕ) (numbers : List ℕ) → drop (4 * j) (flat_map (to_le_bytes w32) numbers) ≡ flat_map (to_le_bytes w32) (drop j numbers)
 drop_numbers zero numbers = refl
@@ -36,18 +34,6 @@ row_of_numbers image k =
     let numbers : List ℕ = image_numbers image in
     sym (take_numbers 8 (drop (8 * k) numbers))
     ∙ ap (take 32) (sym (drop_numbers (8 * k) numbers) ∙ ap (λ n. drop n (flat_map (to_le_bytes w32) numbers)) (sym place))
-
-encode_lower-append : (a b : List ℕ) → encode_lower (a ++ b) ≡ encode_lower a ++ encode_lower b
-unfolding encode_with
-encode_lower-append [] b = refl
-encode_lower-append (x ∷ a) b = ap (λ t. encode_lower (x ∷ []) ++ t) (encode_lower-append a b)
-
--- the digits of one more number, where one is left
-pub digits_more : (i : ℕ) (numbers : List ℕ) → encode_lower (flat_map (to_le_bytes w32) (take (i + 1) numbers)) ≡ encode_lower (flat_map (to_le_bytes w32) (take i numbers)) ++ encode_lower (flat_map (to_le_bytes w32) (take 1 (drop i numbers)))
-digits_more i numbers =
-    ap (λ t. encode_lower (flat_map (to_le_bytes w32) t)) (take-add i 1 numbers)
-    ∙ ap encode_lower (flat_map-append (to_le_bytes w32) (take i numbers) (take 1 (drop i numbers)))
-    ∙ encode_lower-append (flat_map (to_le_bytes w32) (take i numbers)) (flat_map (to_le_bytes w32) (take 1 (drop i numbers)))
 
 -- the row of the numbers from place 8 k on is the row of the bytes from place 32 k on
 pub image_row_at : (image : ImageValue) (k : ℕ) (numbers text : List ℕ) → numbers ≡ drop (8 * k) (image_numbers image) → text ≡ row_text (bytes_row (flat_map (to_le_bytes w32) (take 8 numbers))) → text ≡ row_text (image_row (image_bytes image) k)

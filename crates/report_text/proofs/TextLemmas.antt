@@ -10,7 +10,9 @@ use Rattle.kmp_base.specs.Rows.{row_text, text_of}
 use Rattle.kmp_base.specs.Streams.{Writes}
 use Rattle.kmp_base.proofs.StreamLemmas.{writes_as, writes_next, writes_cut}
 use Rattle.timetable.specs.declared.CoreEnd.{CoreEnd}
-use Rattle.report_text.specs.Text.{core_rows, rows_of_cores}
+use Rattle.report_rows.specs.Ends.{end_value}
+use Rattle.report_rows.specs.Rows.{core_rows}
+use Rattle.report_text.specs.Text.{rows_of_cores}
 
 pub text_of-append : (a b : List (List (List ℕ))) → text_of (a ++ b) ≡ text_of a ++ text_of b
 text_of-append a b = flat_map-append row_text a b
@@ -34,39 +36,42 @@ rows_cut {X} f xs i d below is before turn =
 
 -- The rows of cores.
 
-cores_take : (core i : ℕ) (xs : List CoreEnd) (d : CoreEnd) → i < length xs → rows_of_cores core (take (suc i) xs) ≡ rows_of_cores core (take i xs) ++ core_rows (core + i) (get_or xs i d)
+abbrev pub rows_of_ends : ℕ → List CoreEnd → List (List (List ℕ))
+rows_of_ends core ends = rows_of_cores core (map end_value ends)
+
+cores_take : (core i : ℕ) (xs : List CoreEnd) (d : CoreEnd) → i < length xs → rows_of_ends core (take (suc i) xs) ≡ rows_of_ends core (take i xs) ++ core_rows (core + i) (end_value (get_or xs i d))
 cores_take core i [] d below = absurd (omega arith)
 cores_take core zero (y ∷ ys) d below =
     let same : core ≡ core + 0 = omega arith in
-    append-nil (core_rows core y) ∙ ap (λ n. core_rows n y) same
+    append-nil (core_rows core (end_value y)) ∙ ap (λ n. core_rows n (end_value y)) same
 cores_take core (suc i) (y ∷ ys) d below =
     let same : core + 1 + i ≡ core + suc i = omega arith in
-    ap (λ rows. core_rows core y ++ rows) (cores_take (core + 1) i ys d (omega arith) ∙ ap (λ n. rows_of_cores (core + 1) (take i ys) ++ core_rows n (get_or ys i d)) same)
-    ∙ sym (append_assoc (core_rows core y) (rows_of_cores (core + 1) (take i ys)) (core_rows (core + suc i) (get_or ys i d)))
+    ap (λ rows. core_rows core (end_value y) ++ rows) (cores_take (core + 1) i ys d (omega arith) ∙ ap (λ n. rows_of_ends (core + 1) (take i ys) ++ core_rows n (end_value (get_or ys i d))) same)
+    ∙ sym (append_assoc (core_rows core (end_value y)) (rows_of_ends (core + 1) (take i ys)) (core_rows (core + suc i) (end_value (get_or ys i d))))
 
 -- some rows follow
-cores_rest : (core i : ℕ) (xs : List CoreEnd) → i < length xs → (rest : List (List (List ℕ))) × (rows_of_cores core xs ≡ rows_of_cores core (take (suc i) xs) ++ rest)
+cores_rest : (core i : ℕ) (xs : List CoreEnd) → i < length xs → (rest : List (List (List ℕ))) × (rows_of_ends core xs ≡ rows_of_ends core (take (suc i) xs) ++ rest)
 cores_rest core i [] below = absurd (omega arith)
 cores_rest core zero (y ∷ ys) below =
-    (rows_of_cores (core + 1) ys, ap (λ rows. rows ++ rows_of_cores (core + 1) ys) (sym (append-nil (core_rows core y))))
+    (rows_of_ends (core + 1) ys, ap (λ rows. rows ++ rows_of_ends (core + 1) ys) (sym (append-nil (core_rows core (end_value y)))))
 cores_rest core (suc i) (y ∷ ys) below =
     let later = cores_rest (core + 1) i ys (omega arith) in
-    (later.0, ap (λ rows. core_rows core y ++ rows) later.1 ∙ sym (append_assoc (core_rows core y) (rows_of_cores (core + 1) (take (suc i) ys)) later.0))
+    (later.0, ap (λ rows. core_rows core (end_value y) ++ rows) later.1 ∙ sym (append_assoc (core_rows core (end_value y)) (rows_of_ends (core + 1) (take (suc i) ys)) later.0))
 
 -- the text up to a core, and with it
-cores_text_take : (i : ℕ) (xs : List CoreEnd) (d : CoreEnd) → i < length xs → text_of (rows_of_cores 0 (take (i + 1) xs)) ≡ text_of (rows_of_cores 0 (take i xs)) ++ text_of (core_rows i (get_or xs i d))
+cores_text_take : (i : ℕ) (xs : List CoreEnd) (d : CoreEnd) → i < length xs → text_of (rows_of_ends 0 (take (i + 1) xs)) ≡ text_of (rows_of_ends 0 (take i xs)) ++ text_of (core_rows i (end_value (get_or xs i d)))
 cores_text_take i xs d below =
     let same : 0 + i ≡ i = omega arith in
-    ap (λ n. text_of (rows_of_cores 0 (take n xs))) (add-one i) ∙ ap text_of (cores_take 0 i xs d below ∙ ap (λ n. rows_of_cores 0 (take i xs) ++ core_rows n (get_or xs i d)) same) ∙ text_of-append (rows_of_cores 0 (take i xs)) (core_rows i (get_or xs i d))
+    ap (λ n. text_of (rows_of_ends 0 (take n xs))) (add-one i) ∙ ap text_of (cores_take 0 i xs d below ∙ ap (λ n. rows_of_ends 0 (take i xs) ++ core_rows n (end_value (get_or xs i d))) same) ∙ text_of-append (rows_of_ends 0 (take i xs)) (core_rows i (end_value (get_or xs i d)))
 
 -- the text of the cores up to one more
-pub cores_text_next : (i : ℕ) (xs : List CoreEnd) (x d : CoreEnd) → i < length xs → x ≡ get_or xs i d → text_of (rows_of_cores 0 (take i xs)) ++ text_of (core_rows i x) ≡ text_of (rows_of_cores 0 (take (i + 1) xs))
-cores_text_next i xs x d below is = ap (λ ended. text_of (rows_of_cores 0 (take i xs)) ++ text_of (core_rows i ended)) is ∙ sym (cores_text_take i xs d below)
+pub cores_text_next : (i : ℕ) (xs : List CoreEnd) (x d : CoreEnd) → i < length xs → x ≡ get_or xs i d → text_of (rows_of_ends 0 (take i xs)) ++ text_of (core_rows i (end_value x)) ≡ text_of (rows_of_ends 0 (take (i + 1) xs))
+cores_text_next i xs x d below is = ap (λ ended. text_of (rows_of_ends 0 (take i xs)) ++ text_of (core_rows i (end_value ended))) is ∙ sym (cores_text_take i xs d below)
 
-pub cores_text_rest : (i : ℕ) (xs : List CoreEnd) → i < length xs → (rest : List ℕ) × (text_of (rows_of_cores 0 (take (i + 1) xs)) ++ rest ≡ text_of (rows_of_cores 0 xs))
+pub cores_text_rest : (i : ℕ) (xs : List CoreEnd) → i < length xs → (rest : List ℕ) × (text_of (rows_of_ends 0 (take (i + 1) xs)) ++ rest ≡ text_of (rows_of_ends 0 xs))
 cores_text_rest i xs below =
     let more = cores_rest 0 i xs below in
-    (text_of more.0, ap (λ n. text_of (rows_of_cores 0 (take n xs)) ++ text_of more.0) (add-one i) ∙ sym (text_of-append (rows_of_cores 0 (take (suc i) xs)) more.0) ∙ sym (ap text_of more.1))
+    (text_of more.0, ap (λ n. text_of (rows_of_ends 0 (take n xs)) ++ text_of more.0) (add-one i) ∙ sym (text_of-append (rows_of_ends 0 (take (suc i) xs)) more.0) ∙ sym (ap text_of more.1))
 
 -- the place in a range that begins at 0
 pub range_at : (n k : ℕ) → k < n → get_or (range_with_len 0 n) k 0 ≡ k

@@ -6,7 +6,7 @@ use Rattle.access_log.specs.declared.Entry.{Entry}
 use Rattle.access_log.specs.declared.Item.{Item}
 use Rattle.access_log.specs.declared.Item.TheVariants.{Done, Bus}
 use Rattle.access_log.specs.Items.{entries}
-use Rattle.timetable.specs.declared.CoreEnd.{CoreEnd}
+use Rattle.report_rows.specs.Ends.{EndValue}
 
 abbrev pub is_lw : Kind → Bool
 is_lw Lw = true
@@ -34,9 +34,9 @@ abbrev pub is_swap : Entry → Bool
 is_swap entry = is_cas entry.kind && is_some entry.new
 
 -- The instructions that the cores retired; the loads, stores and compare-and-swaps, and those of the last that stored.
-abbrev pub access_counts_of : List CoreEnd → List Entry → List ℕ
+abbrev pub access_counts_of : List EndValue → List Entry → List ℕ
 access_counts_of cores accesses =
-    sum_by (λ (ended : CoreEnd). ended.retired) cores
+    sum_by (λ (ended : EndValue). ended.retired) cores
     ∷ count_by is_load accesses
     ∷ count_by is_store accesses
     ∷ count_by is_compare_and_swap accesses
@@ -44,7 +44,7 @@ access_counts_of cores accesses =
     ∷ []
 
 -- Without a bus and a pipeline the eight counts of transactions and of waits are 0.
-unfoldable pub counts_of : List CoreEnd → List Item → List ℕ
+unfoldable pub counts_of : List EndValue → List Item → List ℕ
 counts_of cores items = access_counts_of cores (entries items) ++ replicate 8 0
 
 -- whether an item is an entry that passes a test

@@ -1,4 +1,7 @@
 pub mod Report
 pub mod Counts
-pub mod Rows
 pub mod Text
+pub mod Form
+pub mod Reading
+pub mod Right
+pub mod Bits

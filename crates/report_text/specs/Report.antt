@@ -1,18 +1,18 @@
 -- A report as contracts see it, and the one of an outcome.
-use Rattle.std.specs.Prelude.{ℕ, ◌+◌, ◌*◌, ◌==◌, if◌then◌else◌, List, [], ◌∷◌, length, drop}
+use Rattle.std.specs.Prelude.{ℕ, ◌+◌, ◌*◌, ◌==◌, if◌then◌else◌, List, [], ◌∷◌, length, drop, map}
 use Rattle.kmp_base.specs.declared.setup.Setup.{Setup}
 use Rattle.image_file.specs.Value.{ImageValue}
 use Rattle.access_log.specs.declared.Item.{Item}
-use Rattle.timetable.specs.declared.CoreEnd.{CoreEnd}
 use Rattle.timetable.specs.Outcome.{OutcomeValue}
-use Rattle.report_text.specs.declared.report.MemoryWord.{MemoryWord}
+use Rattle.report_rows.specs.declared.MemoryWord.{MemoryWord}
+use Rattle.report_rows.specs.Ends.{EndValue, end_value}
 use Rattle.report_text.specs.Counts.{counts_of}
 
 pub record ReportValue : Type 0 where
   pub setup : Setup
   pub image : ImageValue
   pub items : List Item
-  pub cores : List CoreEnd
+  pub cores : List EndValue
   pub words : List MemoryWord
   pub counts : List ℕ
 
@@ -29,11 +29,13 @@ words_past code memory = words_from code (drop code memory)
 
 -- The report of an outcome.
 unfoldable pub report_of : Setup → ImageValue → OutcomeValue → ReportValue
-report_of setup image outcome = record {
-  setup = setup;
-  image = image;
-  items = outcome.items;
-  cores = outcome.cores;
-  words = words_past (length image.code) outcome.words;
-  counts = counts_of outcome.cores outcome.items;
-}
+report_of setup image outcome =
+    let cores = map end_value outcome.cores in
+    record {
+      setup = setup;
+      image = image;
+      items = outcome.items;
+      cores = cores;
+      words = words_past (length image.code) outcome.words;
+      counts = counts_of cores outcome.items;
+    }

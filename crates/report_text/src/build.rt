@@ -1,15 +1,17 @@
 //! The report of a run's outcome.
-ghost use Rattle.std.specs.Prelude.{◌≡◌, ◌*◌, ◌^◌, ◌<◌, ◌≤◌, [], length, count_by, sum_by, IfOk};
+ghost use Rattle.std.specs.Prelude.{◌≡◌, ◌*◌, ◌^◌, ◌<◌, ◌≤◌, [], length, map, count_by, sum_by, IfOk};
 ghost use Rattle.kmp_base.specs.Limits.{IsWithinLimits};
 ghost use Rattle.access_log.specs.Items.{entries, transactions};
+ghost use Rattle.report_rows.specs.Ends.{end_value};
 ghost use Rattle.report_text.specs.Counts.{is_load, is_store, is_compare_and_swap, is_swap, at_entry, counts_of};
 ghost use Rattle.report_text.specs.Report.{words_past, report_of};
 
-use crate::{Counts, MemoryWord, NoMemory, Report};
+use crate::{NoMemory, Report};
 use access_log::{Entry, Item};
 use image_file::Image;
 use kmp_base::Setup;
 use mips_isa::Kind;
+use report_rows::{Counts, MemoryWord};
 use std::alloc::Global;
 use timetable::{CoreEnd, Outcome};
 
@@ -102,9 +104,9 @@ fn retired(cores: &[CoreEnd]) -> u64
 
 /// The counts of a run without a bus and a pipeline.
 #[tactic(auto, unfolding(crate::specs::Counts::counts_of))]
-fn counts_of(cores: &[CoreEnd], items: &[Item]) -> Counts
-    requires { length cores.now ≤ 8 }
-    ensures { result.values ≡ counts_of cores.now items.now }
+pub fn counts_of(cores: &[CoreEnd], items: &[Item]) -> Counts
+    requires few { length cores.now ≤ 8 }
+    ensures counts { result.values ≡ counts_of (map end_value cores.now) items.now }
 {
     let mut values = [0; 13];
     values[0] = retired(cores);

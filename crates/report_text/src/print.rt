@@ -1,16 +1,18 @@
 //! A report's rows into a sink, one in a put.
-ghost use Rattle.std.specs.Prelude.{◌≡◌, map, flat_map};
+ghost use Rattle.std.specs.Prelude.{map, flat_map};
 ghost use Rattle.std.specs.List.{range_with_len};
 ghost use Rattle.kmp_base.specs.Rows.{text_of};
 ghost use Rattle.kmp_base.specs.Streams.{Writes};
 ghost use Rattle.image_file.specs.Value.{image_bytes};
-ghost use Rattle.report_text.specs.Rows.{image_row, item_row, memory_row};
+ghost use Rattle.report_rows.specs.Ends.{end_value};
+ghost use Rattle.report_rows.specs.Rows.{image_row, item_row, memory_row};
 ghost use Rattle.report_text.specs.Text.{image_rows, rows_of_cores, count_rows, run_rows, outcome_rows, report_text};
 
-use crate::{Counts, MemoryWord, Report, rows};
+use crate::Report;
 use access_log::Item;
 use image_file::{Image, Spelling, image_size};
 use kmp_base::{Row, Sink, WriteFault, put};
+use report_rows::{Counts, MemoryWord};
 use timetable::CoreEnd;
 
 fn put_rows<K: Sink>(rows: &[Row], sink: &mut K) -> Result<(), WriteFault>
@@ -28,7 +30,7 @@ fn print_image_rows<K: Sink>(image: &Image, rows: u32, sink: &mut K) -> Result<(
 {
     let mut numbers = Spelling::new(image);
     for _ in 0..rows {
-        put(sink, rows::image(&mut numbers).bytes())?;
+        put(sink, report_rows::image(&mut numbers).bytes())?;
     }
     Ok(())
 }
@@ -37,7 +39,7 @@ fn print_image<K: Sink>(image: &Image, sink: &mut K) -> Result<(), WriteFault>
     ensures { Writes K.held K.faults sink.old sink.new result (text_of (image_rows image.now)) }
 {
     let size = image_size(image);
-    put(sink, rows::number("image", u64::from(size)).bytes())?;
+    put(sink, report_rows::number("image", u64::from(size)).bytes())?;
     print_image_rows(image, size.div_ceil(32), sink)
 }
 
@@ -45,16 +47,16 @@ fn print_history<K: Sink>(items: &[Item], sink: &mut K) -> Result<(), WriteFault
     ensures { Writes K.held K.faults sink.old sink.new result (text_of (map item_row items.now)) }
 {
     for item in items {
-        put(sink, rows::item(item).bytes())?;
+        put(sink, report_rows::item(item).bytes())?;
     }
     Ok(())
 }
 
 fn print_cores<K: Sink>(cores: &[CoreEnd], sink: &mut K) -> Result<(), WriteFault>
-    ensures { Writes K.held K.faults sink.old sink.new result (text_of (rows_of_cores 0 cores.now)) }
+    ensures { Writes K.held K.faults sink.old sink.new result (text_of (rows_of_cores 0 (map end_value cores.now))) }
 {
     for i in 0..cores.len() {
-        put_rows(&rows::core_end(i as u64, &cores[i]), sink)?;
+        put_rows(&report_rows::core_end(i as u64, &cores[i]), sink)?;
     }
     Ok(())
 }
@@ -63,7 +65,7 @@ fn print_memory<K: Sink>(words: &[MemoryWord], sink: &mut K) -> Result<(), Write
     ensures { Writes K.held K.faults sink.old sink.new result (text_of (map memory_row words.now)) }
 {
     for word in words {
-        put(sink, rows::memory(word).bytes())?;
+        put(sink, report_rows::memory(word).bytes())?;
     }
     Ok(())
 }
@@ -71,16 +73,16 @@ fn print_memory<K: Sink>(words: &[MemoryWord], sink: &mut K) -> Result<(), Write
 fn print_counts<K: Sink>(counts: &Counts, sink: &mut K) -> Result<(), WriteFault>
     ensures { Writes K.held K.faults sink.old sink.new result (text_of (count_rows counts.now.values)) }
 {
-    put_rows(&rows::access_counts(counts), sink)?;
-    put_rows(&rows::bus_counts(counts), sink)?;
-    put_rows(&rows::wait_counts(counts), sink)
+    put_rows(&report_rows::access_counts(counts), sink)?;
+    put_rows(&report_rows::bus_counts(counts), sink)?;
+    put_rows(&report_rows::wait_counts(counts), sink)
 }
 
 /// What was asked for, what was loaded, and what was done.
 fn print_run<K: Sink>(report: &Report, sink: &mut K) -> Result<(), WriteFault>
     ensures { Writes K.held K.faults sink.old sink.new result (text_of (run_rows report.now)) }
 {
-    put_rows(&rows::header(&report.setup), sink)?;
+    put_rows(&report_rows::header(&report.setup), sink)?;
     print_image(&report.image, sink)?;
     print_history(report.history.items(), sink)
 }

@@ -2,21 +2,9 @@
 use access_log::History;
 use image_file::Image;
 use kmp_base::Setup;
+use report_rows::{Counts, MemoryWord};
 use std::marker::Model;
 use timetable::CoreEnd;
-
-/// A word of memory, and the address of its first byte.
-#[derive(Clone, Copy, Debug, PartialEq, Eq)]
-pub struct MemoryWord {
-    pub addr: u32,
-    pub value: u32,
-}
-
-/// The counts of a report, in the order of their rows.
-#[derive(Clone, Copy, Debug)]
-pub struct Counts {
-    pub values: [u64; 13],
-}
 
 /// A finished run: what was asked for, what was loaded, what was done and how it ended.
 #[derive(Drop)]
@@ -31,6 +19,8 @@ pub struct Report {
 }
 
 impl Model for Report {
+    ghost use Rattle.std.specs.Prelude.{map};
+    ghost use Rattle.report_rows.specs.Ends.{end_value};
     ghost use Rattle.report_text.specs.Report.{ReportValue};
 
     ghost Value = { ReportValue };
@@ -39,7 +29,7 @@ impl Model for Report {
       setup = report.setup;
       image = report.image;
       items = report.history.items;
-      cores = report.cores.items;
+      cores = map end_value report.cores.items;
       words = report.words.items;
       counts = report.counts.values;
     } };

@@ -1,11 +1,15 @@
 //! Reports against texts written by hand.
-ghost use Rattle.std.specs.Prelude.{◌≡◌, [], length, IfOk};
+ghost use Rattle.std.specs.Prelude.{◌≡◌, [], ◌∷◌, length, IfOk};
 ghost use Rattle.access_log.specs.Items.{transactions};
 ghost use Rattle.kmp_base.specs.Limits.{IsWithinLimits};
+ghost use Rattle.timetable.specs.Right.{IsRight};
+ghost use Rattle.report_text.specs.Right.{IsRightReport};
 
-use crate::{Counts, MemoryWord, NoMemory, Report, build_report, print_report};
+use crate::{
+    Counts, MemoryWord, NoMemory, Report, build_report, print_report, right_report_is_read,
+};
 use access_log::{Entry, History, Item, Letter, Transaction};
-use image_file::{Image, Words};
+use image_file::{Image, Words, start_memory};
 use kmp_base::{MachineKind, MemorySink, Policy, Setup, Turns, WriteFault};
 use mips_isa::{CoreState, Kind, Stop};
 use std::alloc::Global;
@@ -15,7 +19,7 @@ use timetable::{CoreEnd, End, Outcome, Rows};
 
 /// `addiu $t0,$zero,1`, `beq $zero,$zero,2`, `sw $t0,0x100($zero)`, `sw $t0,0x104($zero)` and `halt`
 /// on one core: the branch's delay slot stores, and the second store is jumped over.
-const STORED: &str = "kmp-report 1\n\
+pub(crate) const STORED: &str = "kmp-report 1\n\
     machine plain\n\
     cores 1\n\
     budget 20000\n\
@@ -51,6 +55,7 @@ const STORED: &str = "kmp-report 1\n\
 
 fn setup() -> Setup
     ensures limits { IsWithinLimits result }
+    ensures plain { result.machine ≡ MachineKind.Plain }
     ensures cores { result.cores ≡ 1 }
 {
     Setup {
@@ -161,6 +166,102 @@ fn each_row_is_one_put(rt: HostRuntime) -> Result<(), Fail> {
         let rows = sink.held.iter().filter(|byte| **byte == b'\n').count();
         assert_eq!(rt; rows, failing as usize);
     }
+    Ok(())
+}
+
+/// `halt` alone, on one core.
+const HALTED: &str = "kmp-report 1\n\
+    machine plain\n\
+    cores 1\n\
+    budget 20000\n\
+    arbitration fifo\n\
+    turns round\n\
+    seed 0\n\
+    sets 16\n\
+    ways 1\n\
+    image 24\n\
+    I 4b4d50310200000002000000000000000d00000000000000\n\
+    C 0 halt 1 0 00000004 00000000\n\
+    R 0 0 00000000 00000000 00000000 00000000 00000000 00000001 00000000 00000000\n\
+    R 0 8 00000000 00000000 00000000 00000000 00000000 00000000 00000000 00000000\n\
+    R 0 16 00000000 00000000 00000000 00000000 00000000 00000000 00000000 00000000\n\
+    R 0 24 00000000 00000000 00000000 00000000 00000000 00000000 00000000 00000000\n\
+    N retired 0\n\
+    N loads 0\n\
+    N stores 0\n\
+    N cas 0\n\
+    N swapped 0\n\
+    N transactions 0\n\
+    N exclusive 0\n\
+    N owned 0\n\
+    N upgrades 0\n\
+    N flushes 0\n\
+    N wait-fetch 0\n\
+    N wait-operand 0\n\
+    N wait-access 0\n\
+    end\n";
+
+fn halting_image(alloc: Global) -> Result<Image, NoMemory>
+    ensures { IfOk result (λ image. image ≡ record { memory_lines = 2; code = 13 ∷ 0 ∷ []; segments = [] }) }
+{
+    let code = Vec::from_slice(alloc, &[13, 0])?;
+    Ok(Image {
+        memory_lines: 2,
+        code,
+        segments: Vec::new(alloc),
+    })
+}
+
+/// The core stops before its first instruction, and takes a cycle for it.
+fn halted_outcome(alloc: Global, setup: &Setup, image: &Image) -> Result<Outcome, NoMemory>
+    requires limits { IsWithinLimits setup.now }
+    requires cores { setup.now.cores ≡ 1 }
+    requires image { image.now ≡ record { memory_lines = 2; code = 13 ∷ 0 ∷ []; segments = [] } }
+    ensures cores { IfOk result (λ outcome. length outcome.cores ≡ 1) }
+    ensures words { IfOk result (λ outcome. length outcome.words ≡ 4) }
+    ensures right { IfOk result (λ outcome. IsRight setup.now image.now outcome) }
+{
+    let mut regs = [0; 32];
+    regs[5] = 1;
+    let ended = CoreEnd {
+        end: End::Stopped(Stop::Halt),
+        cycles: 1,
+        retired: 0,
+        state: CoreState {
+            pc: 4,
+            dpc: 0,
+            regs,
+        },
+        rows: Rows::empty(alloc),
+    };
+    let mut cores = Vec::with_capacity(alloc, 1)?;
+    cores.push_reserved(ended);
+    Ok(Outcome {
+        cores,
+        words: start_memory(alloc, image)?,
+        history: History::new(alloc, 0)?,
+    })
+}
+
+#[tactic(auto, unfolding(crate::specs::Report::report_of))]
+fn halted(alloc: Global) -> Result<Report, NoMemory>
+    ensures limits { IfOk result (λ report. IsWithinLimits report.setup) }
+    ensures plain { IfOk result (λ report. report.setup.machine ≡ MachineKind.Plain) }
+    ensures right { IfOk result (λ report. IsRightReport report) }
+{
+    let setup = setup();
+    let image = halting_image(alloc)?;
+    let outcome = halted_outcome(alloc, &setup, &image)?;
+    build_report(alloc, &setup, image, outcome)
+}
+
+#[test]
+fn a_right_report_is_read(rt: HostRuntime) -> Result<(), Fail> {
+    let report = halted(rt.alloc())?;
+    right_report_is_read(&report);
+    let mut sink = MemorySink::new(rt.alloc(), 4096, Vec::new(rt.alloc()))?;
+    assert_eq!(rt; print_report(&report, &mut sink), Ok(()));
+    assert_eq!(rt; str::from_utf8(&sink.held), Ok(HALTED));
     Ok(())
 }
 

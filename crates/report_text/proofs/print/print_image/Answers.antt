@@ -4,7 +4,7 @@ use Rattle.std.proofs.lemmas.Result.{err_from_is_err_and}
 use Rattle.kmp_base.specs.Rows.{row_text, text_of}
 use Rattle.kmp_base.proofs.StreamLemmas.{writes_then, writes_stop, writes_as}
 use Rattle.image_file.specs.Value.{image_bytes}
-use Rattle.report_text.specs.Rows.{number_row, image_row}
+use Rattle.report_rows.specs.Rows.{number_row, image_row}
 use Rattle.report_text.specs.Text.{image_rows}
 use Rattle.report_text.proofs.print.print_image.Goals as goal
 

@@ -6,7 +6,7 @@ use Rattle.std.proofs.lemmas.Result.{err_from_is_err_and}
 use Rattle.kmp_base.specs.Rows.{row_text, text_of}
 use Rattle.kmp_base.proofs.StreamLemmas.{writes_as}
 use Rattle.image_file.specs.Value.{image_numbers, image_bytes}
-use Rattle.report_text.specs.Rows.{image_row}
+use Rattle.report_rows.specs.Rows.{image_row}
 use Rattle.report_text.proofs.ImageLemmas.{image_row_at, drop_eight}
 use Rattle.report_text.proofs.TextLemmas.{range_at, rows_next, rows_cut}
 use Rattle.report_text.proofs.print.print_image_rows.Goals as goal

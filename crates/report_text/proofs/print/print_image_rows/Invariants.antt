@@ -5,7 +5,7 @@ use Rattle.kmp_base.specs.Rows.{text_of}
 use Rattle.kmp_base.specs.Streams.{Writes}
 use Rattle.kmp_base.specs.declared.transfer.WriteFault.{WriteFault}
 use Rattle.image_file.specs.Value.{image_numbers, image_bytes}
-use Rattle.report_text.specs.Rows.{image_row}
+use Rattle.report_rows.specs.Rows.{image_row}
 use Rattle.report_text.proofs.print.print_image_rows.Given as goal
 
 abbrev pub invariant-loop : goal.invariant-loop

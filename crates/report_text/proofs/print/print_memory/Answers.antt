@@ -1,6 +1,6 @@
 use Rattle.std.proofs.Common.{◌∙◌, arith}
 use Rattle.std.proofs.lemmas.Result.{err_from_is_err_and}
-use Rattle.report_text.specs.Rows.{memory_row}
+use Rattle.report_rows.specs.Rows.{memory_row}
 use Rattle.report_text.proofs.TextLemmas.{rows_next, rows_cut}
 use Rattle.report_text.proofs.print.print_memory.Goals as goal
 

@@ -1,6 +1,6 @@
 use Rattle.std.proofs.Common.{take, map}
 use Rattle.std.specs.Prelude.{Ok}
-use Rattle.report_text.specs.Rows.{memory_row}
+use Rattle.report_rows.specs.Rows.{memory_row}
 use Rattle.kmp_base.specs.Rows.{text_of}
 use Rattle.kmp_base.specs.Streams.{Writes}
 use Rattle.kmp_base.specs.declared.transfer.WriteFault.{WriteFault}
