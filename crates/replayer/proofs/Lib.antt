@@ -1,0 +1,15 @@
+pub mod JudgeLemmas
+pub mod CoreLemmas
+pub mod CoresLemmas
+pub mod EntryLemmas
+pub mod LineLemmas
+pub mod OnlyLaws
+pub mod RightJudgments
+pub mod RightEnds
+pub mod RightCores
+pub mod RightRegisters
+pub mod RightFinals
+pub mod RightRows
+pub mod RightImage
+pub mod RightLaws
+pub mod CheckLaws

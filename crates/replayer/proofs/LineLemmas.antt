@@ -1,0 +1,90 @@
+-- The lines at which the rows of a report begin, and that there are no more rows than bytes.
+use Rattle.std.proofs.Common.{◌≡◌, ℕ, ◌+◌, ◌*◌, ◌/◌, ◌≤◌, List, [], ◌∷◌, ◌++◌, length, map, codes, refl, ap, arith}
+use Rattle.std.specs.Prelude.{codes}
+use Rattle.std.proofs.lemmas.List.{length-append, length-map}
+use Rattle.std.proofs.lemmas.List.FromFn.{length-map-range_with_len}
+use Rattle.std.proofs.lemmas.List.Concat.{flat_map-cons}
+use Rattle.kmp_base.specs.declared.setup.Setup.{Setup}
+use Rattle.kmp_base.specs.Rows.{row_behind, row_text, text_of}
+use Rattle.image_file.specs.Value.{ImageValue, image_bytes}
+use Rattle.report_rows.specs.Ends.{EndValue}
+use Rattle.report_rows.specs.Rows.{image_row, item_row, memory_row, header_rows, core_rows, access_count_rows, bus_count_rows, wait_count_rows}
+use Rattle.report_text.specs.Report.{ReportValue}
+use Rattle.report_text.specs.Text.{image_rows, rows_of_cores, count_rows, run_rows, outcome_rows, report_rows, report_text}
+use Rattle.replayer.specs.Outcome.{entries_line, cores_line, words_line, counts_line}
+
+-- ---- a row has a byte at least
+
+some_behind : (text : List ℕ) (parts : List (List ℕ)) → 1 ≤ length (row_behind text parts)
+some_behind text [] = omega (arith, length-append text (codes "\n"))
+some_behind text (part ∷ parts) = some_behind (text ++ codes " " ++ part) parts
+
+some_row : (row : List (List ℕ)) → 1 ≤ length (row_text row)
+some_row [] = omega arith
+some_row (part ∷ parts) = some_behind part parts
+
+rows_few : (rows : List (List (List ℕ))) → length rows ≤ length (text_of rows)
+rows_few [] = omega arith
+rows_few (row ∷ rows) =
+    omega (arith, ap length (flat_map-cons row_text row rows), length-append (row_text row) (text_of rows), some_row row, rows_few rows)
+
+-- ---- how many rows stand together
+
+length-header : (setup : Setup) → length (header_rows setup) ≡ 9
+unfolding header_rows
+length-header setup = refl
+
+length-image : (image : ImageValue) → length (image_rows image) ≡ 1 + (length (image_bytes image) + 31) / 32
+unfolding image_rows
+length-image image =
+    omega (arith, length-map-range_with_len (image_row (image_bytes image)) 0 ((length (image_bytes image) + 31) / 32))
+
+length-core : (core : ℕ) (ended : EndValue) → length (core_rows core ended) ≡ 5
+unfolding core_rows
+length-core core ended = refl
+
+length-cores : (core : ℕ) (ends : List EndValue) → length (rows_of_cores core ends) ≡ 5 * length ends
+length-cores core [] = refl
+length-cores core (ended ∷ more) =
+    omega (arith, length-append (core_rows core ended) (rows_of_cores (core + 1) more), length-core core ended, length-cores (core + 1) more)
+
+length-counts : (counts : List ℕ) → length (count_rows counts) ≡ 13
+unfolding access_count_rows bus_count_rows wait_count_rows
+length-counts counts = refl
+
+-- ---- the lines
+
+pub entries_line_is : (report : ReportValue) → entries_line report ≡ 11 + (length (image_bytes report.image) + 31) / 32
+entries_line_is report =
+    omega (arith, length-append (header_rows report.setup) (image_rows report.image), length-header report.setup, length-image report.image)
+
+pub cores_line_is : (report : ReportValue) → cores_line report ≡ entries_line report + length report.items
+cores_line_is report =
+    omega (arith, length-append (header_rows report.setup ++ image_rows report.image) (map item_row report.items), length-map report.items item_row)
+
+pub words_line_is : (report : ReportValue) → words_line report ≡ cores_line report + 5 * length report.cores
+words_line_is report = omega (arith, length-append (run_rows report) (rows_of_cores 0 report.cores), length-cores 0 report.cores)
+
+pub counts_line_is : (report : ReportValue) → counts_line report ≡ words_line report + length report.words
+counts_line_is report =
+    omega (arith, length-append (run_rows report ++ rows_of_cores 0 report.cores) (map memory_row report.words), length-map report.words memory_row)
+
+-- the last line is no greater than the number of bytes
+pub last_line : (report : ReportValue) → counts_line report + 13 ≤ length (report_text report)
+unfolding report_rows report_text
+last_line report =
+    let run = run_rows report in
+    let cores = rows_of_cores 0 report.cores in
+    let words = map memory_row report.words in
+    let counts = count_rows report.counts in
+    omega (
+      arith,
+      rows_few (report_rows report),
+      length-append (run ++ outcome_rows report) ((codes "end" ∷ []) ∷ []),
+      length-append run (outcome_rows report),
+      length-append (cores ++ words) counts,
+      length-append cores words,
+      length-append (run ++ cores) words,
+      length-append run cores,
+      length-counts report.counts,
+    )

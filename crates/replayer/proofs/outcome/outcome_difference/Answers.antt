@@ -1,0 +1,74 @@
+use Rattle.std.proofs.Common.{◌≡◌, ◌++◌, List, length, map, None, sym, ap, ◌∙◌, arith}
+use Rattle.access_log.specs.Items.{entries}
+use Rattle.access_log.specs.Replay.{FlatMachine}
+use Rattle.timetable.specs.declared.CoreEnd.{CoreEnd}
+use Rattle.report_rows.specs.Ends.{end_value}
+use Rattle.report_rows.specs.declared.MemoryWord.{MemoryWord}
+use Rattle.report_text.specs.Counts.{counts_of}
+use Rattle.report_text.specs.Report.{ReportValue, words_past}
+use Rattle.replayer.specs.Judgments.{Judgment, first_difference, words_judged, counts_judged}
+use Rattle.replayer.specs.Cores.{cores_judged}
+use Rattle.replayer.specs.Outcome.{cores_line, words_line, counts_line}
+use Rattle.replayer.proofs.JudgeLemmas.{first_before, first_behind}
+use Rattle.replayer.proofs.LineLemmas.{words_line_is, counts_line_is, last_line}
+use Rattle.replayer.proofs.outcome.outcome_difference.Goals as goal
+
+-- what is due of the cores, of memory, and of the counts
+
+abbrev cores : ReportValue → FlatMachine → List Judgment
+cores report machine = cores_judged (cores_line report) report.setup.budget machine (entries report.items) 0 report.cores machine.cores
+
+abbrev words : ReportValue → FlatMachine → List Judgment
+words report machine = words_judged (words_line report) report.words (words_past (length report.image.code) machine.memory)
+
+abbrev counts : ReportValue → List Judgment
+counts report = counts_judged (counts_line report) report.counts (counts_of report.cores report.items)
+
+pub cores_difference-requires-clause-line : goal.cores_difference-requires-clause-line
+cores_difference-requires-clause-line c =
+    let report = c.args.report.now in
+    omega (arith, words_line_is report, counts_line_is report, last_line report)
+
+pub returns-in-Some : goal.returns-in-Some
+returns-in-Some c =
+    let report = c.args.report.now in
+    let machine = c.args.machine.now in
+    sym (first_before (cores report machine ++ words report machine) (counts report) c.in-Some.difference
+    (first_before (cores report machine) (words report machine) c.in-Some.difference (sym (rw c.cores_line.ensures at c.in-Some.ensures.first))))
+
+pub words_difference-requires-clause-lines : goal.words_difference-requires-clause-lines
+words_difference-requires-clause-lines c =
+    let report = c.args.report.now in
+    let words_are : c.deref.result.now ≡ report.words = c.deref.ensures.value ∙ ap (λ (r : ReportValue). r.words) c.report.view_is in
+    omega (arith, ap (λ (ws : List MemoryWord). length ws) words_are, counts_line_is report, last_line report)
+
+pub returns-in-Some-words_difference : goal.returns-in-Some-words_difference
+returns-in-Some-words_difference c =
+    let report = c.args.report.now in
+    let machine = c.args.machine.now in
+    let words_are : c.deref.result.now ≡ report.words = c.deref.ensures.value ∙ ap (λ (r : ReportValue). r.words) c.report.view_is in
+    let code_is : c.report.inside.image.code ≡ report.image.code = ap (λ (r : ReportValue). r.image.code) c.report.view_is in
+    sym (first_before (cores report machine ++ words report machine) (counts report) c.in-Some-words_difference.difference
+    (first_behind (cores report machine) (words report machine) (sym (rw c.cores_line.ensures at c.in_default.ensures.first))
+    ∙ sym (rw (c.words_line-line.ensures, words_are, code_is, c.in_default.ensures.memory) at c.in-Some-words_difference.ensures)))
+
+pub counts_difference-requires : goal.counts_difference-requires
+counts_difference-requires c = omega (arith, last_line c.args.report.now)
+
+pub returns : goal.returns
+returns c =
+    let report = c.args.report.now in
+    let machine = c.args.machine.now in
+    let words_are : c.deref.result.now ≡ report.words = c.deref.ensures.value ∙ ap (λ (r : ReportValue). r.words) c.report.view_is in
+    let code_is : c.report.inside.image.code ≡ report.image.code = ap (λ (r : ReportValue). r.image.code) c.report.view_is in
+    let due_is : c.counts_of-due.result.values ≡ counts_of report.cores report.items =
+    c.counts_of-due.ensures.counts
+    ∙ ap (λ (ends : List CoreEnd). counts_of (map end_value ends) c.items.result.now) c.deref-2.ensures.value
+    ∙ ap (counts_of (map end_value c.report.inside.cores.items)) c.items.ensures.items
+    ∙ ap (λ (r : ReportValue). counts_of r.cores r.items) c.report.view_is in
+    let counts_are : c.report.inside.counts.values ≡ report.counts = ap (λ (r : ReportValue). r.counts) c.report.view_is in
+    let none_before : first_difference (cores report machine ++ words report machine) ≡ None =
+    first_behind (cores report machine) (words report machine) (sym (rw c.cores_line.ensures at c.in_default.ensures.first))
+    ∙ sym (rw (c.words_line-line.ensures, words_are, code_is, c.in_default.ensures.memory) at c.in_default-words_difference.ensures) in
+    let told : c.counts_difference.result ≡ first_difference (counts report) = rw (c.counts_line.ensures, due_is, counts_are) at c.counts_difference.ensures in
+    told ∙ sym (first_behind (cores report machine ++ words report machine) (counts report) none_before)

@@ -1,0 +1,4 @@
+pub mod Judgments
+pub mod Cores
+pub mod Outcome
+pub mod Difference

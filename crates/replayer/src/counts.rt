@@ -1,0 +1,21 @@
+//! The rows of counts.
+ghost use Rattle.std.specs.Prelude.{◌≡◌, ◌^◌, ◌<◌, ◌-◌};
+ghost use Rattle.replayer.specs.Judgments.{first_difference, counts_judged};
+
+use crate::Difference;
+use crate::judgments::number;
+use access_log::Field;
+use report_text::Counts;
+
+/// The first count that differs, one in a row from a line on.
+pub(crate) fn counts_difference(line: u32, kept: &Counts, due: &Counts) -> Option<Difference>
+    requires { line < 2 ^ 32 - 13 }
+    ensures { result ≡ first_difference (counts_judged line kept.now.values due.now.values) }
+{
+    for i in 0..13 {
+        if kept.values[i] != due.values[i] {
+            return Some(number(line + i as u32, Field::Count, kept.values[i], due.values[i]));
+        }
+    }
+    None
+}

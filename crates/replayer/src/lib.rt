@@ -1,0 +1,87 @@
+//! The check of a report by the sequential machine.
+//!
+//! The machine makes the report's accesses in their order, and then each core catches up to the number of instructions
+//! that its row tells. What stands in each row is compared with what the machine has there.
+#![tactic(auto)]
+
+ghost use Rattle.std.specs.Prelude.{◌≡◌, ◌≤◌, ◌↔◌, length, IfOk, IfNone, IfSome};
+ghost use Rattle.report_text.specs.Form.{IsReport};
+ghost use Rattle.report_text.specs.Right.{IsRightReport};
+ghost use Rattle.report_text.specs.Text.{report_text};
+ghost use Rattle.replayer.specs.Outcome.{machine_of};
+ghost use Rattle.replayer.specs.Difference.{IsDifference, IfDiffers};
+
+mod cores;
+mod counts;
+mod entries;
+mod judgments;
+mod lines;
+mod outcome;
+mod words;
+
+use access_log::{Field, Found};
+use entries::entries_difference;
+use lines::entries_line;
+use outcome::outcome_difference;
+pub use report_text::NoMemory;
+use report_text::Report;
+use seq_machine::Machine;
+use std::alloc::Global;
+
+/// The first field of a report that differs from what is due.
+#[derive(Clone, Copy, Debug, PartialEq, Eq)]
+pub struct Difference {
+    /// The number of its row, from 1.
+    pub line: u32,
+    pub field: Field,
+    /// What stands there.
+    pub kept: Found,
+    /// What is due.
+    pub found: Found,
+}
+
+/// What a check answers.
+#[derive(Clone, Copy, Debug, PartialEq, Eq)]
+pub enum Verdict {
+    /// The report is right.
+    Agrees,
+    /// It isn't, and this is the first field that differs. Rows are judged in their order, and the fields of a row in the
+    /// order of [`Field`]; whether a spent core may have retired so many instructions is judged behind its end.
+    Differs(Difference),
+}
+
+/// The first difference of a report, by the machine at the start of what it says was loaded.
+fn difference_of(machine: &mut Machine, report: &Report) -> Option<Difference>
+    requires form { IsReport report.now }
+    requires size { length (report_text report.now) ≤ 268435456 }
+    requires start { machine.old ≡ machine_of report.now }
+    ensures none { IfNone result (IsRightReport report.now) }
+    ensures some { IfSome result (λ difference. IsDifference report.now difference) }
+{
+    let items = report.history.items();
+    if let Some(difference) = entries_difference(machine, items, entries_line(report)) {
+        return Some(difference);
+    }
+    outcome_difference(machine, report)
+}
+
+/// Whether a report is right, and else its first difference.
+///
+/// Each report that [`report_text::read_report`] gives meets the conditions. The error says that there wasn't enough
+/// memory for the machine; nothing else is taken.
+pub fn check(alloc: Global, report: &Report) -> Result<Verdict, NoMemory>
+    requires form { IsReport report.now }
+    requires size { length (report_text report.now) ≤ 268435456 }
+    ensures agrees { IfOk result (λ verdict. (verdict ≡ Verdict.Agrees) ↔ IsRightReport report.now) }
+    ensures differs { IfOk result (λ verdict. IfDiffers verdict (IsDifference report.now)) }
+    ensures only { (difference : Difference) → IsDifference report.now difference → IfOk result (λ verdict. verdict ≡ Verdict.Differs difference) }
+{
+    let mut machine = Machine::new(alloc, &report.image, report.setup.cores)?;
+    match difference_of(&mut machine, report) {
+        None => Ok(Verdict::Agrees),
+        Some(difference) => Ok(Verdict::Differs(difference)),
+    }
+}
+
+#[cfg(test)]
+mod tests;

@@ -1,0 +1,43 @@
+//! The lines at which the rows of a report begin.
+ghost use Rattle.std.specs.Prelude.{◌≡◌, ◌≤◌, length};
+ghost use Rattle.report_text.specs.Text.{report_text};
+ghost use Rattle.replayer.specs.Outcome.{entries_line, cores_line, words_line, counts_line};
+
+use image_file::image_size;
+use report_text::Report;
+
+/// The line of the first access. Nine rows of what was asked for, the number of the image's bytes, and the image, 32 bytes
+/// in a row, stand before it.
+#[tactic(auto, using(crate::proofs::LineLemmas::entries_line_is))]
+pub(crate) fn entries_line(report: &Report) -> u32
+    ensures { result ≡ entries_line report.now }
+{
+    11 + image_size(&report.image).div_ceil(32)
+}
+
+/// The line of the first core.
+#[tactic(auto, using(crate::proofs::LineLemmas::cores_line_is, crate::proofs::LineLemmas::words_line_is, crate::proofs::LineLemmas::counts_line_is, crate::proofs::LineLemmas::last_line))]
+pub(crate) fn cores_line(report: &Report) -> u32
+    requires { length (report_text report.now) ≤ 268435456 }
+    ensures { result ≡ cores_line report.now }
+{
+    entries_line(report) + report.history.len()
+}
+
+/// The line of the first memory word, behind five for each core.
+#[tactic(auto, using(crate::proofs::LineLemmas::words_line_is, crate::proofs::LineLemmas::counts_line_is, crate::proofs::LineLemmas::last_line))]
+pub(crate) fn words_line(report: &Report) -> u32
+    requires { length (report_text report.now) ≤ 268435456 }
+    ensures { result ≡ words_line report.now }
+{
+    cores_line(report) + 5 * report.cores.len() as u32
+}
+
+/// The line of the first count.
+#[tactic(auto, using(crate::proofs::LineLemmas::counts_line_is, crate::proofs::LineLemmas::last_line))]
+pub(crate) fn counts_line(report: &Report) -> u32
+    requires { length (report_text report.now) ≤ 268435456 }
+    ensures { result ≡ counts_line report.now }
+{
+    words_line(report) + report.words.len() as u32
+}
