@@ -1,4 +1,5 @@
 pub mod Outcome
 pub mod Refused
+pub mod Replay
 pub mod Right
 pub mod Status

@@ -81,8 +81,16 @@ image_row cause byte = refused_row (number_of cause) (name_of cause) (codes "byt
     name_of images.DoesNotFit = codes "DoesNotFit"
     name_of images.Trailing = codes "Trailing"
 
--- an input
+-- an input of more bytes than a limit
+abbrev pub too_long_row : ℕ → List ℕ
+too_long_row limit = refused_row 9 (codes "TooLong") (codes "byte") limit
+
+-- a text that is no report
+abbrev pub bad_row : ℕ → List ℕ
+bad_row line = refused_row 30 (codes "BadRow") (codes "line") line
+
+-- an input that means no image
 abbrev pub refusal_row : Refusal → List ℕ
-refusal_row (refusals.TooLong limit) = refused_row 9 (codes "TooLong") (codes "byte") limit
+refusal_row (refusals.TooLong limit) = too_long_row limit
 refusal_row (refusals.Asm cause line) = source_row cause line
 refusal_row (refusals.Image cause byte) = image_row cause byte

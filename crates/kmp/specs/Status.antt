@@ -1,11 +1,11 @@
 -- The status of each way in which the program ends.
 use Rattle.std.specs.Prelude.{ℕ, Result, Ok, Err, if◌then◌else◌}
 use Rattle.std.specs.List.{list_all}
-use Rattle.timetable.specs.declared.CoreEnd.{CoreEnd}
+use Rattle.report_rows.specs.Ends.{EndValue}
 use Rattle.timetable.specs.Outcome.{is_halt}
 use Rattle.report_text.specs.Report.{ReportValue}
 use Rattle.kmp.specs.declared.status.Status.{Status}
-use Rattle.kmp.specs.declared.status.Status.TheVariants.{Done, OtherEnd, WordsRefused, InputRefused, ReadFault, WriteFault, NoMemory}
+use Rattle.kmp.specs.declared.status.Status.TheVariants.{Done, OtherEnd, WordsRefused, InputRefused, ReadFault, WriteFault, NoMemory, Differs}
 
 abbrev pub code_of : Status → ℕ
 code_of Done = 0
@@ -15,10 +15,11 @@ code_of InputRefused = 3
 code_of ReadFault = 4
 code_of WriteFault = 5
 code_of NoMemory = 6
+code_of Differs = 7
 
 -- Whether every core ended at a `halt`.
 abbrev pub status_of : ReportValue → Status
-status_of report = if list_all (λ (core : CoreEnd). is_halt core.end) report.cores then Done else OtherEnd
+status_of report = if list_all (λ (core : EndValue). is_halt core.end) report.cores then Done else OtherEnd
 
 -- The status that is due, unless the write failed.
 abbrev pub after_write : {T E : Type 0} → Status → Result T E → Status

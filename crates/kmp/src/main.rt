@@ -1,11 +1,15 @@
-//! Runs an assembler source or an image on the machine and reports the run, or writes the image of a source.
+//! Runs an assembler source or an image on the machine and reports the run, writes the image of a source, or checks a
+//! report.
 #![tactic(auto)]
 
 mod refused;
+#[cfg(test)]
+mod replay_tests;
 mod status;
 #[cfg(test)]
 mod tests;
 mod tool;
+mod verdict;
 
 use kmp_base::{StdSink, StdSource};
 use std::env;

@@ -1,6 +1,6 @@
 //! The rows of refusals.
 ghost use Rattle.std.specs.Prelude.{◌≡◌, ◌≤◌, length};
-ghost use Rattle.kmp.specs.Refused.{refused_row, word_row, source_row, image_row, refusal_row};
+ghost use Rattle.kmp.specs.Refused.{refused_row, word_row, source_row, image_row, too_long_row, bad_row, refusal_row};
 
 use asm_parse::AsmCause;
 use image_file::ImageCause;
@@ -73,12 +73,26 @@ fn of_image(cause: ImageCause, byte: u32) -> Row
     }
 }
 
-/// The row of an input without a meaning.
+/// The row of an input of more bytes than a limit.
+pub fn too_long(limit: usize) -> Row
+    ensures row { result ≡ too_long_row limit }
+{
+    refused(9, "TooLong", "byte", limit as u64)
+}
+
+/// The row of a text that is no report, by the number of its first bad row.
+pub fn bad_row(line: u32) -> Row
+    ensures row { result ≡ bad_row line }
+{
+    refused(30, "BadRow", "line", u64::from(line))
+}
+
+/// The row of an input that means no image.
 pub fn of_input(refusal: Refusal) -> Row
     ensures row { result ≡ refusal_row refusal }
 {
     match refusal {
-        Refusal::TooLong(limit) => refused(9, "TooLong", "byte", limit as u64),
+        Refusal::TooLong(limit) => too_long(limit),
         Refusal::Asm(cause, line) => of_source(cause, line),
         Refusal::Image(cause, byte) => of_image(cause, byte),
     }

@@ -18,6 +18,8 @@ pub enum Status {
     ReadFault,
     WriteFault,
     NoMemory,
+    /// A report isn't right.
+    Differs,
 }
 
 impl Status {
@@ -33,6 +35,7 @@ impl Status {
             Status::ReadFault => 4,
             Status::WriteFault => 5,
             Status::NoMemory => 6,
+            Status::Differs => 7,
         }
     }
 }
@@ -44,6 +47,7 @@ fn all_halt(cores: &[CoreEnd]) -> bool
 }
 
 /// The status of a report that was written whole.
+#[tactic(auto, using(crate::proofs::StatusLemmas::halts_told))]
 pub fn status_of(report: &Report) -> Status
     ensures status { result ≡ status_of report.now }
 {

@@ -7,7 +7,7 @@ use std::process::Abort;
 use std::test::Fail;
 
 // The report of a `halt` alone.
-const HALT: &str = "kmp-report 1
+pub(crate) const HALT: &str = "kmp-report 1
 machine plain
 cores 1
 budget 20000
@@ -83,19 +83,24 @@ end
 ";
 
 // A source of bytes, which comes in pieces of so many bytes and fails at a call.
-fn source_of(alloc: Global, text: &[u8], piece: usize, call: u32) -> Result<MemorySource, Fail>
+pub(crate) fn source_of(
+    alloc: Global,
+    text: &[u8],
+    piece: usize,
+    call: u32,
+) -> Result<MemorySource, Fail>
     requires { 0 < piece }
 {
     let bytes = text.to_vec(alloc)?;
     Ok(MemorySource::new(bytes, piece, [call].to_vec(alloc)?))
 }
 
-fn sink_failing_at(alloc: Global, call: u32) -> Result<MemorySink, Fail> {
+pub(crate) fn sink_failing_at(alloc: Global, call: u32) -> Result<MemorySink, Fail> {
     Ok(MemorySink::new(alloc, 1 << 16, [call].to_vec(alloc)?)?)
 }
 
 // No call has this number.
-const NEVER: u32 = 1 << 31;
+pub(crate) const NEVER: u32 = 1 << 31;
 
 #[test]
 fn reports_and_refusals(rt: HostRuntime) -> Result<(), Fail> {
@@ -359,13 +364,13 @@ const HALT_IMAGE: [u8; 24] = [
 ];
 
 // Each core stores the number of cores in a word of its own.
-const OWN_WORDS: &str = "sll $t0,$a0,2
+pub(crate) const OWN_WORDS: &str = "sll $t0,$a0,2
 sw $a1,0x100($t0)
 halt
 ";
 
 // Each core counts to a hundred in a shared word.
-const SHARED_COUNTER: &str = "        la    $t0, counter
+pub(crate) const SHARED_COUNTER: &str = "        la    $t0, counter
         li    $t1, 100
 loop:   lw    $t2, 0($t0)
         addiu $t3, $t2, 1

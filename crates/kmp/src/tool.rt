@@ -1,41 +1,40 @@
 //! The whole of a call of the program.
-ghost use Rattle.std.specs.Prelude.{◌≡◌, ◌⊎◌, ◌<◌, IsOk, IfOk, IfErr};
+ghost use Rattle.std.specs.Prelude.{◌≡◌, ◌≢◌, ◌⊎◌, ◌<◌, ◌≤◌, List, ℕ, length, Ok, Err, IfOk, IfErr};
 ghost use Rattle.kmp_base.specs.Streams.{Rose};
+ghost use Rattle.report_text.specs.Form.{IsReport};
 ghost use Rattle.report_text.specs.Text.{report_text};
 ghost use Rattle.image_file.specs.Value.{image_bytes};
-ghost use Rattle.kmp_words.specs.Words.{texts_of, words_meaning, IsRunnableSetup, IsRunnable};
-ghost use Rattle.kmp.specs.Refused.{word_row, refusal_row};
-ghost use Rattle.kmp.specs.Right.{IsRightReport};
+ghost use Rattle.kmp_words.specs.Input.{ReadsAll};
+ghost use Rattle.kmp_words.specs.Words.{texts_of, words_meaning, IsRunnableSetup, IsProperInput, IsRunnable};
+ghost use Rattle.kmp.specs.Refused.{word_row, refusal_row, too_long_row, bad_row};
+ghost use Rattle.kmp.specs.Replay.{agrees_row, difference_row};
+ghost use Rattle.kmp.specs.Right.{IsReportOf};
 ghost use Rattle.kmp.specs.Status.{status_of, code_of};
-ghost use Rattle.kmp.specs.Outcome.{Answers, Finishes, RunsOut, Ends};
+ghost use Rattle.kmp.specs.Outcome.{IsRunDue, IsImageDue, IsVerdictDue, IsCheckDue, Answers, Finishes, RunsOut, Ends};
 ghost use Rattle.kmp.specs.declared.status.Status.{Status};
-ghost use Rattle.kmp.specs.declared.status.Status.TheVariants.{Done, InputRefused, WordsRefused};
+ghost use Rattle.kmp.specs.declared.status.Status.TheVariants.{Done, InputRefused, WordsRefused, Differs};
 
-use crate::refused;
 use crate::status::{Status, status_of};
+use crate::{refused, verdict};
 use core_run::run_serial;
 use image_file::{Image, write_image};
-use kmp_base::{Setup, Sink, Source, WriteFault, put};
-use kmp_words::{LoadFault, Order, Refusal, WordFault, load, read_words};
-use report_text::{NoMemory, Report, build_report, print_report};
+use kmp_base::{InputFault, Row, Setup, Sink, Source, WriteFault, put, read_input};
+use kmp_words::{Input, LoadFault, Order, WordFault, load, read_words};
+use replayer::{Verdict, check};
+use report_text::{
+    NoMemory, Report, ReportFault, build_report, print_report, read_report, right_report_is_read,
+};
 use std::alloc::Global;
 
-// Writes the row of an input's refusal.
-fn refuse<K: Sink>(refusal: Refusal, sink: &mut K) -> Status
-    ensures { Answers K.held K.faults sink.old sink.new (refusal_row refusal) InputRefused result }
-{
-    match put(sink, refused::of_input(refusal).bytes()) {
-        Ok(()) => Status::InputRefused,
-        Err(WriteFault) => Status::WriteFault,
-    }
-}
+/// The most bytes of a report that is checked.
+const REPORT_LIMIT: usize = 268_435_456;
 
-// Writes the row of the words' refusal.
-fn refuse_words<K: Sink>(fault: WordFault, sink: &mut K) -> Status
-    ensures { Answers K.held K.faults sink.old sink.new (word_row fault) WordsRefused result }
+// Writes a row, behind which a status is due.
+fn write_row<K: Sink>(row: &Row, due: Status, sink: &mut K) -> Status
+    ensures { Answers K.held K.faults sink.old sink.new row.now due result }
 {
-    match put(sink, refused::of_words(fault).bytes()) {
-        Ok(()) => Status::WordsRefused,
+    match put(sink, row.bytes()) {
+        Ok(()) => due,
         Err(WriteFault) => Status::WriteFault,
     }
 }
@@ -63,23 +62,117 @@ fn write<K: Sink>(image: &Image, sink: &mut K) -> Status
 // The report of the run of an image.
 fn report_of(alloc: Global, setup: &Setup, image: Image) -> Result<Report, NoMemory>
     requires runnable { IsRunnableSetup setup.now }
-    ensures right { IfOk result (IsRightReport setup.now image) }
+    ensures right { IfOk result (IsReportOf setup.now image) }
 {
     let outcome = run_serial(alloc, &image, setup)?;
-    build_report(alloc, setup, image, outcome)
+    let report = build_report(alloc, setup, image, outcome)?;
+    right_report_is_read(&report);
+    Ok(report)
 }
 
-// Does with an image what an order asks for.
-fn carry_out<K: Sink>(alloc: Global, order: &Order, image: Image, sink: &mut K) -> Status
-    requires runnable { IsRunnable order.now }
-    ensures { Finishes K.held K.faults sink.old sink.new order.now (Ok image) result ⊎ RunsOut sink.old sink.new result }
+// Runs an image.
+fn run<K: Sink>(alloc: Global, setup: &Setup, image: Image, sink: &mut K) -> Status
+    requires runnable { IsRunnableSetup setup.now }
+    ensures { Finishes K.held K.faults sink.old sink.new (IsRunDue setup.now (Ok image)) result ⊎ RunsOut sink.old sink.new result }
 {
-    match order {
-        Order::Asm { .. } => write(&image, sink),
-        Order::Run { setup, .. } => match report_of(alloc, setup, image) {
-            Ok(report) => print(&report, sink),
-            Err(_) => Status::NoMemory,
-        },
+    match report_of(alloc, setup, image) {
+        Ok(report) => print(&report, sink),
+        Err(_) => Status::NoMemory,
+    }
+}
+
+// Reads an input and runs it, or refuses it.
+fn obey_run<S: Source, K: Sink>(
+    alloc: Global,
+    setup: &Setup,
+    input: Input,
+    source: &mut S,
+    sink: &mut K,
+) -> Status
+    requires runnable { IsRunnableSetup setup.now }
+    requires proper { IsProperInput input }
+    ensures { Ends S.left S.faults K.held K.faults (Order.Run setup.now input) source.old source.new sink.old sink.new result }
+{
+    match load(alloc, source, input) {
+        Ok(image) => run(alloc, setup, image, sink),
+        Err(LoadFault::Refused(refusal)) => write_row(
+            &refused::of_input(refusal),
+            Status::InputRefused,
+            sink,
+        ),
+        Err(LoadFault::Read) => Status::ReadFault,
+        Err(LoadFault::Memory) => Status::NoMemory,
+    }
+}
+
+// Reads a source and writes its image, or refuses it.
+fn obey_asm<S: Source, K: Sink>(
+    alloc: Global,
+    memory_lines: u32,
+    source: &mut S,
+    sink: &mut K,
+) -> Status
+    requires proper { IsProperInput (Input.Source memory_lines) }
+    ensures { Ends S.left S.faults K.held K.faults (Order.Asm memory_lines) source.old source.new sink.old sink.new result }
+{
+    match load(alloc, source, Input::Source(memory_lines)) {
+        Ok(image) => write(&image, sink),
+        Err(LoadFault::Refused(refusal)) => write_row(
+            &refused::of_input(refusal),
+            Status::InputRefused,
+            sink,
+        ),
+        Err(LoadFault::Read) => Status::ReadFault,
+        Err(LoadFault::Memory) => Status::NoMemory,
+    }
+}
+
+// Checks a report and writes the verdict.
+fn judge<K: Sink>(alloc: Global, report: &Report, sink: &mut K) -> Status
+    requires form { IsReport report.now }
+    requires size { length (report_text report.now) ≤ 268435456 }
+    ensures { Finishes K.held K.faults sink.old sink.new (IsVerdictDue report.now) result ⊎ RunsOut sink.old sink.new result }
+{
+    match check(alloc, report) {
+        Ok(Verdict::Agrees) => write_row(&verdict::agrees(), Status::Done, sink),
+        Ok(Verdict::Differs(difference)) => write_row(
+            &verdict::differs(&difference),
+            Status::Differs,
+            sink,
+        ),
+        Err(_) => Status::NoMemory,
+    }
+}
+
+// Checks the report whose text was read, or refuses the text.
+fn check_text<K: Sink>(alloc: Global, bytes: &[u8], sink: &mut K) -> Status
+    requires size { length bytes.now ≤ 268435456 }
+    ensures { Finishes K.held K.faults sink.old sink.new (IsCheckDue bytes.now) result ⊎ RunsOut sink.old sink.new result }
+{
+    match read_report(alloc, bytes) {
+        Ok(report) => judge(alloc, &report, sink),
+        Err(ReportFault::BadRow(line)) => write_row(
+            &refused::bad_row(line),
+            Status::InputRefused,
+            sink,
+        ),
+        Err(ReportFault::Memory) => Status::NoMemory,
+    }
+}
+
+// Reads a report and checks it, or refuses it.
+fn obey_replay<S: Source, K: Sink>(alloc: Global, source: &mut S, sink: &mut K) -> Status
+    ensures { Ends S.left S.faults K.held K.faults Order.Replay source.old source.new sink.old sink.new result }
+{
+    match read_input(alloc, source, REPORT_LIMIT) {
+        Ok(bytes) => check_text(alloc, &bytes, sink),
+        Err(InputFault::TooLong) => write_row(
+            &refused::too_long(REPORT_LIMIT),
+            Status::InputRefused,
+            sink,
+        ),
+        Err(InputFault::Failed) => Status::ReadFault,
+        Err(InputFault::Memory) => Status::NoMemory,
     }
 }
 
@@ -88,11 +181,10 @@ fn obey<S: Source, K: Sink>(alloc: Global, order: &Order, source: &mut S, sink: 
     requires runnable { IsRunnable order.now }
     ensures { Ends S.left S.faults K.held K.faults order.now source.old source.new sink.old sink.new result }
 {
-    match load(alloc, source, order.input()) {
-        Ok(image) => carry_out(alloc, order, image, sink),
-        Err(LoadFault::Refused(refusal)) => refuse(refusal, sink),
-        Err(LoadFault::Read) => Status::ReadFault,
-        Err(LoadFault::Memory) => Status::NoMemory,
+    match order {
+        Order::Run { setup, input } => obey_run(alloc, setup, *input, source, sink),
+        Order::Asm { memory_lines } => obey_asm(alloc, *memory_lines, source, sink),
+        Order::Replay => obey_replay(alloc, source, sink),
     }
 }
 
@@ -119,6 +211,6 @@ pub fn tool<S: Source, K: Sink>(alloc: Global, words: &[&str], source: &mut S, s
 {
     match read_words(words) {
         Ok(order) => obey(alloc, &order, source, sink).code(),
-        Err(fault) => refuse_words(fault, sink).code(),
+        Err(fault) => write_row(&refused::of_words(fault), Status::WordsRefused, sink).code(),
     }
 }

@@ -235,6 +235,7 @@ setup_runnable options proper =
 pub order_runnable : (command : Command) (options : Options) → AreProper options → IsRunnable (order_of command options)
 order_runnable commands.Run options proper = (setup_runnable options proper, input_proper options.image (memory_lines options) (lines_within options.memory proper.memory_is))
 order_runnable commands.Asm options proper = lines_within options.memory proper.memory_is
+order_runnable commands.Replay options proper = tt
 
 -- the options behind a word
 pub options_go_on : (command : Command) (word : ℕ) (options next : Options) (texts : List (Bor (List ℕ))) (i : ℕ) (d : Bor (List ℕ)) → i < length texts → option_in command word (get_or texts i d).now options ≡ Ok next

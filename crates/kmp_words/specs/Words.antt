@@ -36,7 +36,7 @@ abbrev pub texts_of : List (Bor (List ℕ)) → List (List ℕ)
 texts_of words = map (λ (word : Bor (List ℕ)). word.now) words
 
 abbrev pub command_names : List (List ℕ × Command)
-command_names = (codes "run", commands.Run) ∷ (codes "asm", commands.Asm) ∷ []
+command_names = (codes "run", commands.Run) ∷ (codes "asm", commands.Asm) ∷ (codes "replay", commands.Replay) ∷ []
 
 -- the options of each command
 abbrev pub options_of : Command → List (List ℕ × OptionName)
@@ -49,6 +49,7 @@ options_of commands.Run =
     ∷ (codes "--image", names.Image)
     ∷ []
 options_of commands.Asm = (codes "--memory", names.Memory) ∷ []
+options_of commands.Replay = []
 
 -- The name in a word: what stands before its first `=`.
 abbrev pub name_in : List ℕ → List ℕ
@@ -158,6 +159,7 @@ memory_lines options = option_map_or (λ memory. memory.0) options.memory 8192
 abbrev pub order_of : Command → Options → Order
 order_of commands.Run options = orders.Run (setup_of options) (if is_some options.image then inputs.Image else inputs.Source (memory_lines options))
 order_of commands.Asm options = orders.Asm (memory_lines options)
+order_of commands.Replay options = orders.Replay
 
 -- options of which none excludes another
 abbrev pub together : Options → Result Options WordFault
@@ -180,11 +182,6 @@ abbrev pub IsProperInput : Input → Type 0
 IsProperInput (inputs.Source memory_lines) = (2 ≤ memory_lines) × (memory_lines ≤ 2097152)
 IsProperInput inputs.Image = Unit {0}
 
--- how an order reads its input
-abbrev pub input_of : Order → Input
-input_of (orders.Run setup input) = input
-input_of (orders.Asm memory_lines) = inputs.Source memory_lines
-
 -- What a run can be asked for by now: unpipelined cores in turns.
 pub record IsRunnableSetup (setup : Setup) : Type 0 where
   pub limits : IsWithinLimits setup
@@ -195,3 +192,4 @@ pub record IsRunnableSetup (setup : Setup) : Type 0 where
 abbrev pub IsRunnable : Order → Type 0
 IsRunnable (orders.Run setup input) = IsRunnableSetup setup × IsProperInput input
 IsRunnable (orders.Asm memory_lines) = IsProperInput (inputs.Source memory_lines)
+IsRunnable orders.Replay = Unit {0}

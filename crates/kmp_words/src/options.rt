@@ -9,6 +9,7 @@ use kmp_base::{MachineKind, Policy, Setup, Turns, decimal_of};
 pub enum Command {
     Run,
     Asm,
+    Replay,
 }
 
 #[derive(Clone, Copy, Debug, PartialEq, Eq)]
@@ -50,6 +51,7 @@ impl Command {
         match name {
             "run" => Some(Command::Run),
             "asm" => Some(Command::Asm),
+            "replay" => Some(Command::Replay),
             _ => None,
         }
     }
@@ -61,6 +63,7 @@ impl Command {
         match self {
             Command::Run => run_option(name),
             Command::Asm => asm_option(name),
+            Command::Replay => None,
         }
     }
 }

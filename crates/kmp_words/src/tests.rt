@@ -23,9 +23,10 @@ fn run(cores: u32, budget: u32, input: Input) -> Order {
 
 #[test]
 fn orders(rt: HostRuntime) {
-    let cases: [(&[&str], Order); 14] = [
+    let cases: [(&[&str], Order); 15] = [
         (&["run"], run(1, 20_000, Input::Source(8192))),
         (&["asm"], Order::Asm { memory_lines: 8192 }),
+        (&["replay"], Order::Replay),
         (
             &["run", "--memory=65536"],
             run(1, 20_000, Input::Source(8192)),
@@ -79,10 +80,10 @@ fn orders(rt: HostRuntime) {
 
 #[test]
 fn faulty_words(rt: HostRuntime) {
-    let cases: [(&[&str], WordCause, u32); 27] = [
+    let cases: [(&[&str], WordCause, u32); 28] = [
         (&[], WordCause::NoCommand, 1),
         (&["fly"], WordCause::UnknownCommand, 1),
-        (&["replay"], WordCause::UnknownCommand, 1),
+        (&["replays"], WordCause::UnknownCommand, 1),
         (&["--help"], WordCause::UnknownCommand, 1),
         (&["run "], WordCause::UnknownCommand, 1),
         (&["", "run"], WordCause::UnknownCommand, 1),
@@ -94,6 +95,7 @@ fn faulty_words(rt: HostRuntime) {
         (&["run", "--memor=64"], WordCause::UnknownOption, 2),
         (&["run", "--speed=1"], WordCause::UnknownOption, 2),
         (&["asm", "--cores=1"], WordCause::UnknownOption, 2),
+        (&["replay", "--image"], WordCause::UnknownOption, 2),
         (
             &["run", "--cores=2", "--cores=2"],
             WordCause::OptionTwice,

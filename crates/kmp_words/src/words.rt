@@ -67,16 +67,18 @@ fn order_of(command: Command, options: Options) -> Order
         Command::Asm => Order::Asm {
             memory_lines: options.memory_lines(),
         },
+        Command::Replay => Order::Replay,
     }
 }
 
 /// What the words behind the program's name ask for.
 ///
-/// The first word is the command, `run` or `asm`. Each later one is an option, which may stand once. `--memory=N` is for
-/// both: N bytes of memory, a multiple of 8 from 16 to 16,777,216, and 65,536 where it doesn't stand. The others are for
-/// `run`: `--cores=N`, from 1 to 8, and 1 where it doesn't stand; `--budget=N`, cycles for each core from 1 to 100,000,
-/// and 20,000 where it doesn't stand; `--machine=plain`; `--turns=round`; and `--image`, where it reads an image. The
-/// first fault from the left answers, and behind them that `--memory` and `--image` exclude each other.
+/// The first word is the command, `run`, `asm` or `replay`. Each later one is an option, which may stand once; `replay`
+/// has none. `--memory=N` is for the other two: N bytes of memory, a multiple of 8 from 16 to 16,777,216, and 65,536
+/// where it doesn't stand. The others are for `run`: `--cores=N`, from 1 to 8, and 1 where it doesn't stand;
+/// `--budget=N`, cycles for each core from 1 to 100,000, and 20,000 where it doesn't stand; `--machine=plain`;
+/// `--turns=round`; and `--image`, where it reads an image. The first fault from the left answers, and behind them that
+/// `--memory` and `--image` exclude each other.
 #[tactic(auto, unfolding(crate::specs::Words::words_meaning))]
 pub fn read_words(words: &[&str]) -> Result<Order, WordFault>
     ensures meaning { result ≡ words_meaning (texts_of words.now) }

@@ -1,6 +1,4 @@
-use Rattle.std.proofs.Common.{ℕ, List, Bool, true, false, refl, arith, ◌≡◌}
-use Rattle.std.specs.Str.{bytes_eq}
-use Rattle.std.proofs.lemmas.Slice.Eq.{bytes_eq-Decides}
+use Rattle.std.proofs.Common.{refl}
 use Rattle.kmp_words.proofs.WordsLemmas.{differs}
 use Rattle.kmp_words.proofs.options.run_option.Goals as goal
 

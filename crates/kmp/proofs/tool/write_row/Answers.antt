@@ -1,18 +1,18 @@
-use Rattle.std.proofs.Common.{refl, ◌∙◌}
+use Rattle.std.proofs.Common.{refl}
 use Rattle.std.specs.Prelude.{Ok, Err}
 use Rattle.kmp_base.proofs.StreamLemmas.{writes_as}
-use Rattle.kmp.proofs.tool.refuse.Goals as goal
+use Rattle.kmp.proofs.tool.write_row.Goals as goal
 
 pub returns-in-Ok : goal.returns-in-Ok
 returns-in-Ok g c = record {
   result = Ok tt;
-  writes = writes_as (c.bytes.ensures.bytes ∙ c.of_input.ensures.row) c.in-Ok.ensures.writes;
+  writes = writes_as c.bytes.ensures.bytes c.in-Ok.ensures.writes;
   status_is = refl;
 }
 
 pub returns-in-Err : goal.returns-in-Err
 returns-in-Err g c = record {
   result = Err c.in-Err.field-0;
-  writes = writes_as (c.bytes.ensures.bytes ∙ c.of_input.ensures.row) c.in-Err.ensures.writes;
+  writes = writes_as c.bytes.ensures.bytes c.in-Err.ensures.writes;
   status_is = refl;
 }

@@ -1,0 +1,103 @@
+//! The rows of verdicts.
+ghost use Rattle.std.specs.Prelude.{◌≡◌, ◌+◌, ◌≤◌, ◌++◌, length, codes};
+ghost use Rattle.kmp.specs.Replay.{field_name, found_text, agrees_row, difference_row};
+
+use access_log::{Field, Found};
+use kmp_base::Row;
+use replayer::Difference;
+use report_rows::{kind_name, letter_name, stop_name};
+
+/// The field of an access, a transaction, an end or a memory in words.
+fn field_name(field: Field) -> &'static str
+    ensures name { result.now ≡ field_name field }
+    ensures short { length result.now ≤ 8 }
+{
+    match field {
+        Field::Nth => "nth",
+        Field::Kind => "kind",
+        Field::Addr => "addr",
+        Field::Old => "old",
+        Field::New => "new",
+        Field::Letter => "letter",
+        Field::Im => "im",
+        Field::Line => "line",
+        Field::Held => "held",
+        Field::Ch => "ch",
+        Field::Di => "di",
+        Field::Victim => "victim",
+        Field::Retired => "retired",
+        Field::End => "end",
+        Field::Cycles => "cycles",
+        Field::Rows => "rows",
+        Field::Pc => "pc",
+        Field::Dpc => "dpc",
+        Field::Register => "register",
+        Field::Word => "word",
+        Field::I => "I",
+        Field::F => "F",
+        Field::D => "D",
+        Field::E => "E",
+        Field::A => "A",
+        Field::M => "M",
+        Field::W => "W",
+        Field::Count => "count",
+    }
+}
+
+/// Appends an address and the word there.
+fn add_word(row: &mut Row, addr: u32, value: u32)
+    requires { length row.old ≤ 108 }
+    ensures bytes { row.new ≡ row.old ++ found_text (Found.Word addr value) }
+    ensures len { length row.new ≤ length row.old + 20 }
+{
+    row.hex8(addr);
+    row.text(":");
+    row.hex8(value);
+}
+
+/// Appends what stands in a field.
+#[tactic(auto, using(kmp_base::proofs::TextLemmas::decimal_fits))]
+fn add_found(row: &mut Row, found: Found)
+    requires { length row.old ≤ 108 }
+    ensures bytes { row.new ≡ row.old ++ found_text found }
+    ensures len { length row.new ≤ length row.old + 20 }
+{
+    match found {
+        Found::Number(n) => row.decimal(n),
+        Found::Hex(word) => row.hex8(word),
+        Found::Kind(kind) => row.text(kind_name(kind)),
+        Found::Letter(letter) => row.text(letter_name(letter)),
+        Found::End(Some(stop)) => row.text(stop_name(stop)),
+        Found::End(None) => row.text("spent"),
+        Found::Word(addr, value) => add_word(row, addr, value),
+        Found::Set(caches) => row.hex4(caches),
+        Found::Nothing => row.text("-"),
+    }
+}
+
+/// The row of a report that is right.
+pub fn agrees() -> Row
+    ensures row { result ≡ agrees_row }
+{
+    let mut row = Row::new();
+    row.text("replay agrees\n");
+    row
+}
+
+/// The row of a report's first difference.
+#[tactic(auto, using(kmp_base::proofs::TextLemmas::decimal_fits))]
+pub fn differs(difference: &Difference) -> Row
+    ensures row { result ≡ difference_row difference.now }
+{
+    let mut row = Row::new();
+    row.text("replay differs line ");
+    row.decimal(u64::from(difference.line));
+    row.text(" field ");
+    row.text(field_name(difference.field));
+    row.text(" kept ");
+    add_found(&mut row, difference.kept);
+    row.text(" found ");
+    add_found(&mut row, difference.found);
+    row.text("\n");
+    row
+}
