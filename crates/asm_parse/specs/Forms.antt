@@ -11,6 +11,8 @@ use Rattle.asm_parse.specs.declared.forms.Form.TheVariants.{Shift, ShiftBy, Alu,
 use Rattle.asm_parse.specs.declared.forms.Slot.TheVariants.{Rd, Rs, Rt}
 use Rattle.asm_parse.specs.declared.forms.Kind.{Kind}
 use Rattle.asm_parse.specs.declared.forms.Kind.TheVariants.{Register, Number, Place, Label, Address, Link}
+use Rattle.asm_parse.specs.declared.forms.Kinds.{Kinds}
+use Rattle.asm_parse.specs.declared.forms.Kinds.TheVariants as several
 use Rattle.asm_parse.specs.declared.statement.Part.{Part}
 use Rattle.asm_parse.specs.declared.statement.Part.TheVariants as parts
 
@@ -107,6 +109,13 @@ rs = Register Rs
 
 abbrev pub rt : Kind
 rt = Register Rt
+
+-- operands, as a list
+abbrev pub list_of : Kinds → List Kind
+list_of several.None = []
+list_of (several.One first) = first ∷ []
+list_of (several.Two first second) = first ∷ second ∷ []
+list_of (several.Three first second third) = first ∷ second ∷ third ∷ []
 
 -- The operands of a statement, from the left, in the order of the MIPS32 manuals. A place is a label or a number, an
 -- address is `offset(rs)`, and a link is `rd, rs` or `rs`. Those of `.data`, `.word` and `.space` are read apart.

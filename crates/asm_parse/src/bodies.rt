@@ -3,7 +3,8 @@ ghost use Rattle.std.specs.Prelude.{◌≡◌, ◌<◌, [], ◌∷◌, IfOk, IsT
 ghost use Rattle.mips_isa.specs.Words.{IsProper};
 ghost use Rattle.asm_token.specs.Faults.{Gives};
 ghost use Rattle.asm_parse.specs.Bounds.{is_within};
-ghost use Rattle.asm_parse.specs.Operands.{AreRegisters};
+ghost use Rattle.asm_parse.specs.Forms.{kinds_of};
+ghost use Rattle.asm_parse.specs.Operands.{operands_in, AreRegisters};
 ghost use Rattle.asm_parse.specs.Statements.{number_of, upper_half, lower_half, branch, jump, bodies_of, lone_number_in, data_in, space_in, words_in, statement_in, IsBranch, IsProperBody};
 
 use crate::bounds::{ADDRESS, Bounds, SPACE, WORD};
@@ -214,6 +215,14 @@ fn words_in(alloc: Global, tokens: &[Token]) -> Result<Vec<Body>, LineFault>
     Ok(words)
 }
 
+/// The operands of a statement.
+fn operands_of(alloc: Global, form: Form, tokens: &[Token]) -> Result<Operands, LineFault>
+    ensures value { Gives (λ o. o) result (operands_in (kinds_of form) tokens.now) }
+    ensures registers { IfOk result (λ o. AreRegisters o) }
+{
+    operands_in(alloc, form.kinds(), tokens)
+}
+
 /// What a statement is, by the tokens behind its name.
 #[tactic(auto, unfolding(crate::specs::Statements::statement_in))]
 pub fn statement_in(alloc: Global, form: Form, tokens: &[Token]) -> Result<Vec<Body>, LineFault>
@@ -225,7 +234,7 @@ pub fn statement_in(alloc: Global, form: Form, tokens: &[Token]) -> Result<Vec<B
         Form::Word => words_in(alloc, tokens),
         Form::Space => space_in(alloc, tokens),
         _ => {
-            let operands = operands_in(alloc, form.kinds(), tokens)?;
+            let operands = operands_of(alloc, form, tokens)?;
             bodies_of(alloc, form, operands)
         }
     }

@@ -1,5 +1,5 @@
 //! The statements that there are.
-ghost use Rattle.std.specs.Prelude.{◌≡◌};
+ghost use Rattle.std.specs.Prelude.{◌≡◌, [], ◌∷◌, IfSome, IfNone};
 ghost use Rattle.asm_parse.specs.Forms.{form_of};
 
 use crate::bounds::{AMOUNT, Bounds, SIGNED, TARGET, UNSIGNED, WORD};
@@ -68,6 +68,32 @@ pub enum Kind {
     Link,
 }
 
+/// The operands of a statement, from the left.
+#[derive(Clone, Copy)]
+pub enum Kinds {
+    None,
+    One(Kind),
+    Two(Kind, Kind),
+    Three(Kind, Kind, Kind),
+}
+
+impl Kinds {
+    ghost use Rattle.asm_parse.specs.Forms.{list_of};
+
+    /// The first, and those behind it.
+    pub fn split_first(self) -> Option<(Kind, Kinds)>
+        ensures some { IfSome result (λ split. list_of self ≡ split.0 ∷ list_of split.1) }
+        ensures none { IfNone result (list_of self ≡ []) }
+    {
+        match self {
+            Kinds::None => None,
+            Kinds::One(first) => Some((first, Kinds::None)),
+            Kinds::Two(first, second) => Some((first, Kinds::One(second))),
+            Kinds::Three(first, second, third) => Some((first, Kinds::Two(second, third))),
+        }
+    }
+}
+
 const RD: Kind = Kind::Register(Slot::Rd);
 
 const RS: Kind = Kind::Register(Slot::Rs);
@@ -75,31 +101,31 @@ const RS: Kind = Kind::Register(Slot::Rs);
 const RT: Kind = Kind::Register(Slot::Rt);
 
 impl Form {
-    ghost use Rattle.asm_parse.specs.Forms.{kinds_of, stands_in, part_behind};
+    ghost use Rattle.asm_parse.specs.Forms.{kinds_of, list_of, stands_in, part_behind};
 
     /// The operands, from the left. Those of `.data`, `.word` and `.space` are read apart.
-    pub fn kinds(self) -> &'static [Kind]
-        ensures kinds { result.now ≡ kinds_of self }
+    pub fn kinds(self) -> Kinds
+        ensures kinds { list_of result ≡ kinds_of self }
     {
         match self {
-            Form::Shift(_) => &[RD, RT, Kind::Number(AMOUNT)],
-            Form::ShiftBy(_) => &[RD, RT, RS],
-            Form::Alu(_) | Form::Cas => &[RD, RS, RT],
-            Form::Signed(_) => &[RT, RS, Kind::Number(SIGNED)],
-            Form::Unsigned(_) => &[RT, RS, Kind::Number(UNSIGNED)],
-            Form::Lui => &[RT, Kind::Number(UNSIGNED)],
-            Form::BranchTwo(_) => &[RS, RT, Kind::Place(SIGNED)],
-            Form::BranchZero(_) => &[RS, Kind::Place(SIGNED)],
-            Form::Jump(_) => &[Kind::Place(TARGET)],
-            Form::JumpReg => &[RS],
-            Form::JumpLink => &[Kind::Link],
-            Form::Lw | Form::Sw => &[RT, Kind::Address],
-            Form::Move => &[RD, RS],
-            Form::Branch => &[Kind::Place(SIGNED)],
-            Form::Li => &[RT, Kind::Number(WORD)],
-            Form::La => &[RT, Kind::Place(WORD)],
-            Form::Globl => &[Kind::Label],
-            Form::Halt | Form::Nop | Form::Text | Form::Data | Form::Word | Form::Space => &[],
+            Form::Shift(_) => Kinds::Three(RD, RT, Kind::Number(AMOUNT)),
+            Form::ShiftBy(_) => Kinds::Three(RD, RT, RS),
+            Form::Alu(_) | Form::Cas => Kinds::Three(RD, RS, RT),
+            Form::Signed(_) => Kinds::Three(RT, RS, Kind::Number(SIGNED)),
+            Form::Unsigned(_) => Kinds::Three(RT, RS, Kind::Number(UNSIGNED)),
+            Form::Lui => Kinds::Two(RT, Kind::Number(UNSIGNED)),
+            Form::BranchTwo(_) => Kinds::Three(RS, RT, Kind::Place(SIGNED)),
+            Form::BranchZero(_) => Kinds::Two(RS, Kind::Place(SIGNED)),
+            Form::Jump(_) => Kinds::One(Kind::Place(TARGET)),
+            Form::JumpReg => Kinds::One(RS),
+            Form::JumpLink => Kinds::One(Kind::Link),
+            Form::Lw | Form::Sw => Kinds::Two(RT, Kind::Address),
+            Form::Move => Kinds::Two(RD, RS),
+            Form::Branch => Kinds::One(Kind::Place(SIGNED)),
+            Form::Li => Kinds::Two(RT, Kind::Number(WORD)),
+            Form::La => Kinds::Two(RT, Kind::Place(WORD)),
+            Form::Globl => Kinds::One(Kind::Label),
+            Form::Halt | Form::Nop | Form::Text | Form::Data | Form::Word | Form::Space => Kinds::None,
         }
     }
 

@@ -10,8 +10,6 @@ mod registers;
 mod source;
 mod statement;
 mod table;
-#[cfg(test)]
-mod tests;
 
 pub use asm_token::{AsmCause, AsmFault};
 pub use source::parse;

@@ -2,10 +2,11 @@
 ghost use Rattle.std.specs.Prelude.{◌≡◌, ◌<◌, length, IfOk, IsTrue};
 ghost use Rattle.asm_token.specs.Faults.{Gives};
 ghost use Rattle.asm_parse.specs.Bounds.{is_within};
+ghost use Rattle.asm_parse.specs.Forms.{list_of};
 ghost use Rattle.asm_parse.specs.Operands.{register_in, number_in, label_in, comma_in, open_in, close_in, end_in, value_of, place_in, offset_in, with_register, with_value, address_in, second_register, link_in, operand_in, more_operands_in, operands_in, no_operands, AreRegisters};
 
 use crate::bounds::{Bounds, SIGNED};
-use crate::forms::{Kind, Slot};
+use crate::forms::{Kind, Kinds, Slot};
 use crate::registers::register_of;
 use crate::statement::Value;
 use asm_token::{AsmCause, LineFault, Name, Number, Token};
@@ -280,20 +281,20 @@ fn operand_in(
 #[tactic(auto, unfolding(crate::specs::Operands::more_operands_in))]
 fn more_operands_in(
     alloc: Global,
-    kinds: &[Kind],
+    kinds: Kinds,
     first: Operands,
     tokens: &[Token],
 ) -> Result<Operands, LineFault>
     requires registers { AreRegisters first }
-    ensures value { Gives (λ o. o) result (more_operands_in kinds.now first tokens.now) }
+    ensures value { Gives (λ o. o) result (more_operands_in (list_of kinds) first tokens.now) }
     ensures registers { IfOk result (λ o. AreRegisters o) }
 {
     let mut operands = first;
     let mut rest = tokens;
     let mut left = kinds;
-    'operands: while let [kind, others @ ..] = left {
+    'operands: while let Some((kind, others)) = left.split_first() {
         let behind = comma_in(rest)?;
-        let (next, after) = operand_in(alloc, *kind, operands, behind)?;
+        let (next, after) = operand_in(alloc, kind, operands, behind)?;
         operands = next;
         rest = after;
         left = others;
@@ -303,14 +304,14 @@ fn more_operands_in(
 
 /// Operands of these kinds, a comma between each two, and nothing behind them.
 #[tactic(auto, unfolding(crate::specs::Operands::operands_in))]
-pub fn operands_in(alloc: Global, kinds: &[Kind], tokens: &[Token]) -> Result<Operands, LineFault>
-    ensures value { Gives (λ o. o) result (operands_in kinds.now tokens.now) }
+pub fn operands_in(alloc: Global, kinds: Kinds, tokens: &[Token]) -> Result<Operands, LineFault>
+    ensures value { Gives (λ o. o) result (operands_in (list_of kinds) tokens.now) }
     ensures registers { IfOk result (λ o. AreRegisters o) }
 {
-    match kinds {
-        [] => end_in(Operands::none(), tokens),
-        [kind, others @ ..] => {
-            let (first, rest) = operand_in(alloc, *kind, Operands::none(), tokens)?;
+    match kinds.split_first() {
+        None => end_in(Operands::none(), tokens),
+        Some((kind, others)) => {
+            let (first, rest) = operand_in(alloc, kind, Operands::none(), tokens)?;
             more_operands_in(alloc, others, first, rest)
         }
     }
