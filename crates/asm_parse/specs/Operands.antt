@@ -13,6 +13,8 @@ use Rattle.asm_parse.specs.declared.forms.Slot.{Slot}
 use Rattle.asm_parse.specs.declared.forms.Slot.TheVariants.{Rd, Rs, Rt}
 use Rattle.asm_parse.specs.declared.forms.Kind.{Kind}
 use Rattle.asm_parse.specs.declared.forms.Kind.TheVariants as kinds
+use Rattle.asm_parse.specs.declared.operands.Operand.{Operand}
+use Rattle.asm_parse.specs.declared.operands.Operand.TheVariants as said
 use Rattle.asm_parse.specs.declared.operands.Operands.{Operands}
 use Rattle.asm_parse.specs.declared.statement.Value.{Value}
 use Rattle.asm_parse.specs.declared.statement.Value.TheVariants as values
@@ -71,45 +73,47 @@ with_register Rd register operands = record operands { rd = register }
 with_register Rs register operands = record operands { rs = register }
 with_register Rt register operands = record operands { rt = register }
 
--- operands with a value
-abbrev pub with_value : Value → Operands → Operands
-with_value value operands = record operands { value = value }
-
--- `offset(rs)`
-unfoldable pub address_in : Operands → List Token → Result (Operands × List Token) AsmCause
-address_in operands ts = do
+-- `offset(rs)`: the offset and the register
+unfoldable pub address_in : List Token → Result ((ℕ × ℕ) × List Token) AsmCause
+address_in ts = do
   offset ← offset_in ts
   opened ← open_in offset.1
   base ← register_in opened
   rest ← close_in base.1
-  Ok (with_register Rs base.0 (with_value (values.Number offset.0) operands), rest)
+  Ok ((offset.0, base.0), rest)
 
--- the second register of a link; without one, the register that was read is rs, and rd is register 31
-abbrev pub second_register : Operands → ℕ → List Token → Result (Operands × List Token) AsmCause
-second_register operands first (tokens.Comma ∷ rest) =
-    register_in rest >>= λ second. Ok (with_register Rs second.0 (with_register Rd first operands), second.1)
-second_register operands first other = Ok (with_register Rs first (with_register Rd 31 operands), other)
+-- rd and rs of a link behind the first register; without a second one, the register that was read is rs, and rd is register 31
+abbrev pub second_register : ℕ → List Token → Result ((ℕ × ℕ) × List Token) AsmCause
+second_register first (tokens.Comma ∷ rest) = register_in rest >>= λ second. Ok ((first, second.0), second.1)
+second_register first other = Ok ((31, first), other)
 
 -- `rd, rs` or `rs`
-unfoldable pub link_in : Operands → List Token → Result (Operands × List Token) AsmCause
-link_in operands ts = register_in ts >>= λ first. second_register operands first.0 first.1
+unfoldable pub link_in : List Token → Result ((ℕ × ℕ) × List Token) AsmCause
+link_in ts = register_in ts >>= λ first. second_register first.0 first.1
 
--- An operand of a kind at the front, put with those before it.
-unfoldable pub operand_in : Kind → Operands → List Token → Result (Operands × List Token) AsmCause
-operand_in (kinds.Register slot) operands ts = register_in ts >>= λ r. Ok (with_register slot r.0 operands, r.1)
-operand_in (kinds.Number bounds) operands ts = number_in bounds ts >>= λ n. Ok (with_value (values.Number (word_of n.0)) operands, n.1)
-operand_in (kinds.Place bounds) operands ts = place_in bounds ts >>= λ v. Ok (with_value v.0 operands, v.1)
-operand_in kinds.Label operands ts = label_in ts >>= λ l. Ok (with_value (values.Of l.0) operands, l.1)
-operand_in kinds.Address operands ts = address_in operands ts
-operand_in kinds.Link operands ts = link_in operands ts
+-- an operand of a kind at the front
+unfoldable pub operand_in : Kind → List Token → Result (Operand × List Token) AsmCause
+operand_in (kinds.Register slot) ts = register_in ts >>= λ r. Ok (said.Register slot r.0, r.1)
+operand_in (kinds.Number bounds) ts = number_in bounds ts >>= λ n. Ok (said.Value (values.Number (word_of n.0)), n.1)
+operand_in (kinds.Place bounds) ts = place_in bounds ts >>= λ v. Ok (said.Value v.0, v.1)
+operand_in kinds.Label ts = label_in ts >>= λ l. Ok (said.Value (values.Of l.0), l.1)
+operand_in kinds.Address ts = address_in ts >>= λ a. Ok (said.Address a.0.0 a.0.1, a.1)
+operand_in kinds.Link ts = link_in ts >>= λ l. Ok (said.Link l.0.0 l.0.1, l.1)
+
+-- operands with one more
+abbrev pub with_operand : Operand → Operands → Operands
+with_operand (said.Register slot register) operands = with_register slot register operands
+with_operand (said.Value value) operands = record operands { value = value }
+with_operand (said.Address offset base) operands = record operands { rs = base; value = values.Number offset }
+with_operand (said.Link rd rs) operands = record operands { rd = rd; rs = rs }
 
 -- operands of these kinds, each behind a comma, and nothing behind them
 unfoldable pub more_operands_in : List Kind → Operands → List Token → Result Operands AsmCause
 more_operands_in [] operands ts = end_in operands ts
 more_operands_in (kind ∷ kinds) operands ts = do
   rest ← comma_in ts
-  next ← operand_in kind operands rest
-  more_operands_in kinds next.0 next.1
+  next ← operand_in kind rest
+  more_operands_in kinds (with_operand next.0 operands) next.1
 
 -- before the first operand
 abbrev pub no_operands : Operands
@@ -118,8 +122,15 @@ no_operands = record { rd = 0; rs = 0; rt = 0; value = values.Number 0 }
 -- Operands of these kinds from the left, a comma between each two, and nothing behind them.
 unfoldable pub operands_in : List Kind → List Token → Result Operands AsmCause
 operands_in [] ts = end_in no_operands ts
-operands_in (kind ∷ kinds) ts = operand_in kind no_operands ts >>= λ next. more_operands_in kinds next.0 next.1
+operands_in (kind ∷ kinds) ts = operand_in kind ts >>= λ next. more_operands_in kinds (with_operand next.0 no_operands) next.1
 
 -- Every register is below 32.
 abbrev pub AreRegisters : Operands → Type 0
 AreRegisters operands = (operands.rd < 32) × (operands.rs < 32) × (operands.rt < 32)
+
+-- The registers that an operand names are below 32.
+abbrev pub IsOperand : Operand → Type 0
+IsOperand (said.Register slot register) = register < 32
+IsOperand (said.Value value) = Unit {0}
+IsOperand (said.Address offset base) = base < 32
+IsOperand (said.Link rd rs) = (rd < 32) × (rs < 32)

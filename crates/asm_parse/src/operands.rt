@@ -3,7 +3,7 @@ ghost use Rattle.std.specs.Prelude.{◌≡◌, ◌<◌, length, IfOk, IsTrue};
 ghost use Rattle.asm_token.specs.Faults.{Gives};
 ghost use Rattle.asm_parse.specs.Bounds.{is_within};
 ghost use Rattle.asm_parse.specs.Forms.{list_of};
-ghost use Rattle.asm_parse.specs.Operands.{register_in, number_in, label_in, comma_in, open_in, close_in, end_in, value_of, place_in, offset_in, with_register, with_value, address_in, second_register, link_in, operand_in, more_operands_in, operands_in, no_operands, AreRegisters};
+ghost use Rattle.asm_parse.specs.Operands.{register_in, number_in, label_in, comma_in, open_in, close_in, end_in, value_of, place_in, offset_in, with_register, with_operand, address_in, second_register, link_in, operand_in, more_operands_in, operands_in, no_operands, AreRegisters, IsOperand};
 
 use crate::bounds::{Bounds, SIGNED};
 use crate::forms::{Kind, Kinds, Slot};
@@ -25,6 +25,17 @@ pub struct Operands {
     pub rs: u8,
     pub rt: u8,
     pub value: Value,
+}
+
+/// What an operand says.
+#[derive(Drop)]
+pub enum Operand {
+    Register(Slot, u8),
+    Value(Value),
+    /// An offset, and the register to which it is added.
+    Address(u32, u8),
+    /// The registers rd and rs of a link.
+    Link(u8, u8),
 }
 
 fn register_in(tokens: &[Token]) -> Result<(u8, &[Token]), LineFault>
@@ -185,95 +196,95 @@ impl Operands {
         }
     }
 
-    fn with_value(self, value: Value) -> Operands
+    /// One operand more.
+    fn with(self, operand: Operand) -> Operands
         requires registers { AreRegisters self }
-        ensures value { result ≡ with_value value self }
+        requires operand { IsOperand operand }
+        ensures value { result ≡ with_operand operand self }
         ensures registers { AreRegisters result }
     {
-        Operands { value, ..self }
+        match operand {
+            Operand::Register(slot, register) => self.with_register(slot, register),
+            Operand::Value(value) => Operands { value, ..self },
+            Operand::Address(offset, rs) => Operands {
+                rs,
+                value: Value::Number(offset),
+                ..self
+            },
+            Operand::Link(rd, rs) => Operands { rd, rs, ..self },
+        }
     }
 }
 
-/// `offset(rs)`.
+/// `offset(rs)`: the offset and the register.
 #[tactic(auto, unfolding(crate::specs::Operands::address_in))]
-fn address_in(operands: Operands, tokens: &[Token]) -> Result<(Operands, &[Token]), LineFault>
-    requires registers { AreRegisters operands }
-    ensures value { Gives (λ o. (o.0, o.1.now)) result (address_in operands tokens.now) }
-    ensures registers { IfOk result (λ o. AreRegisters o.0) }
+fn address_in(tokens: &[Token]) -> Result<(u32, u8, &[Token]), LineFault>
+    ensures value { Gives (λ a. ((a.0, a.1), a.2.now)) result (address_in tokens.now) }
+    ensures base { IfOk result (λ a. a.1 < 32) }
 {
     let (offset, rest) = offset_in(tokens)?;
     let (base, rest) = register_in(open_in(rest)?)?;
-    let rest = close_in(rest)?;
-    let operands = operands.with_value(Value::Number(offset));
-    Ok((operands.with_register(Slot::Rs, base), rest))
+    Ok((offset, base, close_in(rest)?))
 }
 
-/// What follows the first register of `rd, rs` or `rs`.
-fn second_register(
-    operands: Operands,
-    first: u8,
-    tokens: &[Token],
-) -> Result<(Operands, &[Token]), LineFault>
-    requires registers { AreRegisters operands }
+/// The registers of a link, of which the first was read.
+fn second_register(first: u8, tokens: &[Token]) -> Result<(u8, u8, &[Token]), LineFault>
     requires first { first < 32 }
-    ensures value { Gives (λ o. (o.0, o.1.now)) result (second_register operands first tokens.now) }
-    ensures registers { IfOk result (λ o. AreRegisters o.0) }
+    ensures value { Gives (λ l. ((l.0, l.1), l.2.now)) result (second_register first tokens.now) }
+    ensures rd { IfOk result (λ l. l.0 < 32) }
+    ensures rs { IfOk result (λ l. l.1 < 32) }
 {
     match tokens {
         [Token::Comma, rest @ ..] => {
             let (second, rest) = register_in(rest)?;
-            let operands = operands.with_register(Slot::Rd, first);
-            Ok((operands.with_register(Slot::Rs, second), rest))
+            Ok((first, second, rest))
         }
-        _ => {
-            let operands = operands.with_register(Slot::Rd, 31);
-            Ok((operands.with_register(Slot::Rs, first), tokens))
-        }
+        _ => Ok((31, first, tokens)),
     }
 }
 
 /// `rd, rs`, or `rs` where rd is register 31.
 #[tactic(auto, unfolding(crate::specs::Operands::link_in))]
-fn link_in(operands: Operands, tokens: &[Token]) -> Result<(Operands, &[Token]), LineFault>
-    requires registers { AreRegisters operands }
-    ensures value { Gives (λ o. (o.0, o.1.now)) result (link_in operands tokens.now) }
-    ensures registers { IfOk result (λ o. AreRegisters o.0) }
+fn link_in(tokens: &[Token]) -> Result<(u8, u8, &[Token]), LineFault>
+    ensures value { Gives (λ l. ((l.0, l.1), l.2.now)) result (link_in tokens.now) }
+    ensures rd { IfOk result (λ l. l.0 < 32) }
+    ensures rs { IfOk result (λ l. l.1 < 32) }
 {
     let (first, rest) = register_in(tokens)?;
-    second_register(operands, first, rest)
+    second_register(first, rest)
 }
 
-/// An operand of a kind at the front, put with those before it.
+/// An operand of a kind at the front.
 #[tactic(auto, unfolding(crate::specs::Operands::operand_in))]
-fn operand_in(
-    alloc: Global,
-    kind: Kind,
-    operands: Operands,
-    tokens: &[Token],
-) -> Result<(Operands, &[Token]), LineFault>
-    requires registers { AreRegisters operands }
-    ensures value { Gives (λ o. (o.0, o.1.now)) result (operand_in kind operands tokens.now) }
-    ensures registers { IfOk result (λ o. AreRegisters o.0) }
+fn operand_in(alloc: Global, kind: Kind, tokens: &[Token]) -> Result<(Operand, &[Token]), LineFault>
+    ensures value { Gives (λ o. (o.0, o.1.now)) result (operand_in kind tokens.now) }
+    ensures operand { IfOk result (λ o. IsOperand o.0) }
 {
     match kind {
         Kind::Register(slot) => {
             let (register, rest) = register_in(tokens)?;
-            Ok((operands.with_register(slot, register), rest))
+            Ok((Operand::Register(slot, register), rest))
         }
         Kind::Number(bounds) => {
             let (number, rest) = number_in(bounds, tokens)?;
-            Ok((operands.with_value(Value::Number(number.word())), rest))
+            Ok((Operand::Value(Value::Number(number.word())), rest))
         }
         Kind::Place(bounds) => {
             let (value, rest) = place_in(alloc, bounds, tokens)?;
-            Ok((operands.with_value(value), rest))
+            Ok((Operand::Value(value), rest))
         }
         Kind::Label => {
             let (label, rest) = label_in(alloc, tokens)?;
-            Ok((operands.with_value(Value::Of(label)), rest))
+            Ok((Operand::Value(Value::Of(label)), rest))
         }
-        Kind::Address => address_in(operands, tokens),
-        Kind::Link => link_in(operands, tokens),
+        Kind::Address => {
+            let (offset, base, rest) = address_in(tokens)?;
+            Ok((Operand::Address(offset, base), rest))
+        }
+        Kind::Link => {
+            let (rd, rs, rest) = link_in(tokens)?;
+            Ok((Operand::Link(rd, rs), rest))
+        }
     }
 }
 
@@ -293,10 +304,9 @@ fn more_operands_in(
     let mut rest = tokens;
     let mut left = kinds;
     'operands: while let Some((kind, others)) = left.split_first() {
-        let behind = comma_in(rest)?;
-        let (next, after) = operand_in(alloc, kind, operands, behind)?;
-        operands = next;
-        rest = after;
+        let (operand, behind) = operand_in(alloc, kind, comma_in(rest)?)?;
+        operands = operands.with(operand);
+        rest = behind;
         left = others;
     }
     end_in(operands, rest)
@@ -311,8 +321,8 @@ pub fn operands_in(alloc: Global, kinds: Kinds, tokens: &[Token]) -> Result<Oper
     match kinds.split_first() {
         None => end_in(Operands::none(), tokens),
         Some((kind, others)) => {
-            let (first, rest) = operand_in(alloc, kind, Operands::none(), tokens)?;
-            more_operands_in(alloc, others, first, rest)
+            let (first, rest) = operand_in(alloc, kind, tokens)?;
+            more_operands_in(alloc, others, Operands::none().with(first), rest)
         }
     }
 }

@@ -4,7 +4,7 @@ use asm_token::Name;
 use mips_isa::Instr;
 
 /// A part of the program.
-#[derive(Clone, Copy, Debug, PartialEq, Eq)]
+#[derive(Clone, Copy, PartialEq, Eq)]
 pub enum Part {
     /// Instructions.
     Text,
