@@ -31,8 +31,8 @@ abbrev pub number_in : Bounds → List Token → Result (Number × List Token) A
 number_in bounds (tokens.Number n ∷ rest) = if is_within bounds n then Ok (n, rest) else Err Range
 number_in bounds other = Err BadOperand
 
-abbrev pub label_in : List Token → Result (List ℕ × List Token) AsmCause
-label_in (tokens.Name label ∷ rest) = Ok (label, rest)
+abbrev pub label_in : List Token → Result (Operand × List Token) AsmCause
+label_in (tokens.Name label ∷ rest) = Ok (said.Value (values.Of label), rest)
 label_in other = Err BadOperand
 
 abbrev pub comma_in : List Token → Result (List Token) AsmCause
@@ -73,22 +73,22 @@ with_register Rd register operands = record operands { rd = register }
 with_register Rs register operands = record operands { rs = register }
 with_register Rt register operands = record operands { rt = register }
 
--- `offset(rs)`: the offset and the register
-unfoldable pub address_in : List Token → Result ((ℕ × ℕ) × List Token) AsmCause
+-- `offset(rs)`
+unfoldable pub address_in : List Token → Result (Operand × List Token) AsmCause
 address_in ts = do
   offset ← offset_in ts
   opened ← open_in offset.1
   base ← register_in opened
   rest ← close_in base.1
-  Ok ((offset.0, base.0), rest)
+  Ok (said.Address offset.0 base.0, rest)
 
--- rd and rs of a link behind the first register; without a second one, the register that was read is rs, and rd is register 31
-abbrev pub second_register : ℕ → List Token → Result ((ℕ × ℕ) × List Token) AsmCause
-second_register first (tokens.Comma ∷ rest) = register_in rest >>= λ second. Ok ((first, second.0), second.1)
-second_register first other = Ok ((31, first), other)
+-- a link whose first register was read; without a second one, that is rs, and rd is register 31
+abbrev pub second_register : ℕ → List Token → Result (Operand × List Token) AsmCause
+second_register first (tokens.Comma ∷ rest) = register_in rest >>= λ second. Ok (said.Link first second.0, second.1)
+second_register first other = Ok (said.Link 31 first, other)
 
 -- `rd, rs` or `rs`
-unfoldable pub link_in : List Token → Result ((ℕ × ℕ) × List Token) AsmCause
+unfoldable pub link_in : List Token → Result (Operand × List Token) AsmCause
 link_in ts = register_in ts >>= λ first. second_register first.0 first.1
 
 -- an operand of a kind at the front
@@ -96,9 +96,9 @@ unfoldable pub operand_in : Kind → List Token → Result (Operand × List Toke
 operand_in (kinds.Register slot) ts = register_in ts >>= λ r. Ok (said.Register slot r.0, r.1)
 operand_in (kinds.Number bounds) ts = number_in bounds ts >>= λ n. Ok (said.Value (values.Number (word_of n.0)), n.1)
 operand_in (kinds.Place bounds) ts = place_in bounds ts >>= λ v. Ok (said.Value v.0, v.1)
-operand_in kinds.Label ts = label_in ts >>= λ l. Ok (said.Value (values.Of l.0), l.1)
-operand_in kinds.Address ts = address_in ts >>= λ a. Ok (said.Address a.0.0 a.0.1, a.1)
-operand_in kinds.Link ts = link_in ts >>= λ l. Ok (said.Link l.0.0 l.0.1, l.1)
+operand_in kinds.Label ts = label_in ts
+operand_in kinds.Address ts = address_in ts
+operand_in kinds.Link ts = link_in ts
 
 -- operands with one more
 abbrev pub with_operand : Operand → Operands → Operands

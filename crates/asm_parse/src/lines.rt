@@ -1,5 +1,5 @@
 //! Lines and their statements.
-ghost use Rattle.std.specs.Prelude.{◌≡◌, ◌++◌, map, OnOk, IfOk, IfErr, All};
+ghost use Rattle.std.specs.Prelude.{◌≡◌, ◌<◌, [], ◌∷◌, ◌++◌, length, map, OnOk, IfOk, IfErr, IfSome, IfNone, All};
 ghost use Rattle.asm_token.specs.Faults.{Gives};
 ghost use Rattle.asm_parse.specs.Lines.{labels_in, behind_labels, form_in, named_in, line_of};
 ghost use Rattle.asm_parse.specs.Statements.{IsProperBody};
@@ -8,8 +8,22 @@ use crate::bodies::statement_in;
 use crate::forms::{Form, form_of};
 use crate::operands::{BAD_OPERAND, UNKNOWN_NAME};
 use crate::statement::{Body, Part};
-use asm_token::{LineFault, Token, tokens_of};
+use asm_token::{LineFault, Name, Token, tokens_of};
 use std::alloc::Global;
+
+/// The label at the front, and what stands behind its colon.
+fn split_label(tokens: &[Token]) -> Option<(&Name, &[Token])>
+    ensures labels { IfSome result (λ l. labels_in tokens.now ≡ l.0.now ∷ labels_in l.1.now) }
+    ensures behind { IfSome result (λ l. behind_labels tokens.now ≡ behind_labels l.1.now) }
+    ensures shorter { IfSome result (λ l. length l.1.now < length tokens.now) }
+    ensures no_label { IfNone result (labels_in tokens.now ≡ []) }
+    ensures all_behind { IfNone result (behind_labels tokens.now ≡ tokens.now) }
+{
+    match tokens {
+        [Token::Name(label), Token::Colon, behind @ ..] => Some((label, behind)),
+        _ => None,
+    }
+}
 
 /// Puts the labels at the front behind `bodies`, and gives the tokens behind them.
 fn take_labels<'a>(
@@ -24,7 +38,7 @@ fn take_labels<'a>(
     ensures err { IfErr result (λ fault. fault ≡ LineFault.Memory) }
 {
     let mut rest = tokens;
-    'labels: while let [Token::Name(label), Token::Colon, behind @ ..] = rest {
+    'labels: while let Some((label, behind)) = split_label(rest) {
         bodies.push(Body::Label(label.copy(alloc)?))?;
         rest = behind;
     }

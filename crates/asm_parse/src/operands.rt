@@ -9,7 +9,7 @@ use crate::bounds::{Bounds, SIGNED};
 use crate::forms::{Kind, Kinds, Slot};
 use crate::registers::register_of;
 use crate::statement::Value;
-use asm_token::{AsmCause, LineFault, Name, Number, Token};
+use asm_token::{AsmCause, LineFault, Number, Token};
 use std::alloc::Global;
 
 pub const BAD_OPERAND: LineFault = LineFault::Cause(AsmCause::BadOperand);
@@ -67,11 +67,14 @@ pub fn number_in(bounds: Bounds, tokens: &[Token]) -> Result<(Number, &[Token]),
     }
 }
 
-fn label_in(alloc: Global, tokens: &[Token]) -> Result<(Name, &[Token]), LineFault>
-    ensures value { Gives (λ l. (l.0, l.1.now)) result (label_in tokens.now) }
+fn label_in(alloc: Global, tokens: &[Token]) -> Result<(Operand, &[Token]), LineFault>
+    ensures value { Gives (λ o. (o.0, o.1.now)) result (label_in tokens.now) }
+    ensures operand { IfOk result (λ o. IsOperand o.0) }
 {
     match tokens {
-        [Token::Name(label), rest @ ..] => Ok((label.copy(alloc)?, rest)),
+        [Token::Name(label), rest @ ..] => {
+            Ok((Operand::Value(Value::Of(label.copy(alloc)?)), rest))
+        }
         _ => Err(BAD_OPERAND),
     }
 }
@@ -216,39 +219,37 @@ impl Operands {
     }
 }
 
-/// `offset(rs)`: the offset and the register.
+/// `offset(rs)`.
 #[tactic(auto, unfolding(crate::specs::Operands::address_in))]
-fn address_in(tokens: &[Token]) -> Result<(u32, u8, &[Token]), LineFault>
-    ensures value { Gives (λ a. ((a.0, a.1), a.2.now)) result (address_in tokens.now) }
-    ensures base { IfOk result (λ a. a.1 < 32) }
+fn address_in(tokens: &[Token]) -> Result<(Operand, &[Token]), LineFault>
+    ensures value { Gives (λ o. (o.0, o.1.now)) result (address_in tokens.now) }
+    ensures operand { IfOk result (λ o. IsOperand o.0) }
 {
     let (offset, rest) = offset_in(tokens)?;
     let (base, rest) = register_in(open_in(rest)?)?;
-    Ok((offset, base, close_in(rest)?))
+    Ok((Operand::Address(offset, base), close_in(rest)?))
 }
 
-/// The registers of a link, of which the first was read.
-fn second_register(first: u8, tokens: &[Token]) -> Result<(u8, u8, &[Token]), LineFault>
+/// A link whose first register was read.
+fn second_register(first: u8, tokens: &[Token]) -> Result<(Operand, &[Token]), LineFault>
     requires first { first < 32 }
-    ensures value { Gives (λ l. ((l.0, l.1), l.2.now)) result (second_register first tokens.now) }
-    ensures rd { IfOk result (λ l. l.0 < 32) }
-    ensures rs { IfOk result (λ l. l.1 < 32) }
+    ensures value { Gives (λ o. (o.0, o.1.now)) result (second_register first tokens.now) }
+    ensures operand { IfOk result (λ o. IsOperand o.0) }
 {
     match tokens {
         [Token::Comma, rest @ ..] => {
             let (second, rest) = register_in(rest)?;
-            Ok((first, second, rest))
+            Ok((Operand::Link(first, second), rest))
         }
-        _ => Ok((31, first, tokens)),
+        _ => Ok((Operand::Link(31, first), tokens)),
     }
 }
 
 /// `rd, rs`, or `rs` where rd is register 31.
 #[tactic(auto, unfolding(crate::specs::Operands::link_in))]
-fn link_in(tokens: &[Token]) -> Result<(u8, u8, &[Token]), LineFault>
-    ensures value { Gives (λ l. ((l.0, l.1), l.2.now)) result (link_in tokens.now) }
-    ensures rd { IfOk result (λ l. l.0 < 32) }
-    ensures rs { IfOk result (λ l. l.1 < 32) }
+fn link_in(tokens: &[Token]) -> Result<(Operand, &[Token]), LineFault>
+    ensures value { Gives (λ o. (o.0, o.1.now)) result (link_in tokens.now) }
+    ensures operand { IfOk result (λ o. IsOperand o.0) }
 {
     let (first, rest) = register_in(tokens)?;
     second_register(first, rest)
@@ -273,18 +274,9 @@ fn operand_in(alloc: Global, kind: Kind, tokens: &[Token]) -> Result<(Operand, &
             let (value, rest) = place_in(alloc, bounds, tokens)?;
             Ok((Operand::Value(value), rest))
         }
-        Kind::Label => {
-            let (label, rest) = label_in(alloc, tokens)?;
-            Ok((Operand::Value(Value::Of(label)), rest))
-        }
-        Kind::Address => {
-            let (offset, base, rest) = address_in(tokens)?;
-            Ok((Operand::Address(offset, base), rest))
-        }
-        Kind::Link => {
-            let (rd, rs, rest) = link_in(tokens)?;
-            Ok((Operand::Link(rd, rs), rest))
-        }
+        Kind::Label => label_in(alloc, tokens),
+        Kind::Address => address_in(tokens),
+        Kind::Link => link_in(tokens),
     }
 }
 
