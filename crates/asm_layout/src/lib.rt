@@ -8,8 +8,6 @@ mod layout;
 mod operands;
 mod place;
 mod room;
-#[cfg(test)]
-mod tests;
 
 pub use labels::{Labels, address_of};
 pub use layout::{MOST_STATEMENTS, lay_out};

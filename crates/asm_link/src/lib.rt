@@ -6,8 +6,6 @@
 mod code;
 mod image;
 mod segments;
-#[cfg(test)]
-mod tests;
 mod values;
 
 pub use image::assemble;

@@ -5,31 +5,50 @@ ghost use Rattle.asm_token.specs.declared.fault.LineFault.TheVariants.{Memory};
 ghost use Rattle.asm_token.specs.declared.fault.AsmFault.TheVariants as errors;
 
 use std::alloc::{AllocError, AllocFailed};
-use thiserror::Error;
+use std::error::Error;
+use std::fmt::{self, Display, Formatter, Write};
 
 /// What is wrong with a line, or with a whole source.
-#[derive(Clone, Copy, Debug, PartialEq, Eq, Error)]
+#[derive(Clone, Copy, Debug)]
 pub enum AsmCause {
-    #[error("a byte begins no token, or a token ends wrongly")]
     BadByte,
-    #[error("no statement or no register has this name")]
     UnknownName,
-    #[error("another operand, or another part of the program, is wanted here")]
     BadOperand,
-    #[error("a number or an address is out of its bounds")]
     Range,
-    #[error("the label stands twice")]
     LabelTwice,
-    #[error("the label stands nowhere")]
     LabelMissing,
-    #[error("there is no instruction")]
     NoCode,
-    #[error("a word has no room")]
     TooMuch,
 }
 
+impl AsmCause {
+    /// What is wrong, in words.
+    fn text(self) -> &'static str {
+        match self {
+            AsmCause::BadByte => "a byte begins no token, or a token ends wrongly",
+            AsmCause::UnknownName => "no statement or no register has this name",
+            AsmCause::BadOperand => {
+                "another operand, or another part of the program, is wanted here"
+            }
+            AsmCause::Range => "a number or an address is out of its bounds",
+            AsmCause::LabelTwice => "the label stands twice",
+            AsmCause::LabelMissing => "the label stands nowhere",
+            AsmCause::NoCode => "there is no instruction",
+            AsmCause::TooMuch => "a word has no room",
+        }
+    }
+}
+
+impl Display for AsmCause {
+    fn fmt<W: Write>(&self, f: &mut Formatter<W>) -> fmt::Result {
+        f.write_str(self.text())
+    }
+}
+
+impl Error for AsmCause {}
+
 /// Why there is no image of a source.
-#[derive(Clone, Copy, Debug, PartialEq, Eq, Error)]
+#[derive(Clone, Copy, Debug, thiserror::Error)]
 pub enum AsmFault {
     #[error("no memory is left")]
     Memory,

@@ -6,8 +6,6 @@ mod digits;
 mod fault;
 mod name;
 mod number;
-#[cfg(test)]
-mod tests;
 mod token;
 
 pub use fault::{AsmCause, AsmFault, LineFault};

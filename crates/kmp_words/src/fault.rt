@@ -2,7 +2,7 @@
 use thiserror::Error;
 
 /// What is wrong with a word.
-#[derive(Clone, Copy, Debug, PartialEq, Eq, Error)]
+#[derive(Clone, Copy, Debug, Error)]
 pub enum WordCause {
     #[error("there is no command")]
     NoCommand,
@@ -19,7 +19,7 @@ pub enum WordCause {
 }
 
 /// Why the words have no meaning, and the number of the faulty word, counted from 1.
-#[derive(Clone, Copy, Debug, PartialEq, Eq, Error)]
+#[derive(Clone, Copy, Debug, Error)]
 #[error("word {word}: {cause}")]
 pub struct WordFault {
     pub cause: WordCause,

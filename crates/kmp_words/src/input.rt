@@ -16,7 +16,7 @@ pub const SOURCE_LIMIT: usize = 1_048_576;
 pub const IMAGE_LIMIT: usize = 17_825_792;
 
 /// How an input is read.
-#[derive(Clone, Copy, Debug, PartialEq, Eq)]
+#[derive(Clone, Copy)]
 pub enum Input {
     /// As an assembler source, for a memory of so many lines of 8 bytes.
     Source(u32),
@@ -25,7 +25,7 @@ pub enum Input {
 }
 
 /// Why an input has no meaning.
-#[derive(Clone, Copy, Debug, PartialEq, Eq)]
+#[derive(Clone, Copy)]
 pub enum Refusal {
     /// It has more bytes than this limit.
     TooLong(usize),
@@ -36,7 +36,7 @@ pub enum Refusal {
 }
 
 /// Why there is no image.
-#[derive(Clone, Copy, Debug, PartialEq, Eq)]
+#[derive(Clone, Copy)]
 pub enum LoadFault {
     Memory,
     /// A read failed.

@@ -11,6 +11,3 @@ pub use fault::{WordCause, WordFault};
 pub use input::{IMAGE_LIMIT, Input, LoadFault, Refusal, SOURCE_LIMIT, load};
 pub use order::Order;
 pub use words::read_words;
-
-#[cfg(test)]
-mod tests;

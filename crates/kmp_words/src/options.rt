@@ -5,14 +5,14 @@ ghost use Rattle.kmp_words.specs.Words.{command_names, options_of, number_in, li
 
 use kmp_base::{MachineKind, Policy, Setup, Turns, decimal_of};
 
-#[derive(Clone, Copy, Debug, PartialEq, Eq)]
+#[derive(Clone, Copy)]
 pub enum Command {
     Run,
     Asm,
     Replay,
 }
 
-#[derive(Clone, Copy, Debug, PartialEq, Eq)]
+#[derive(Clone, Copy)]
 pub enum OptionName {
     /// `--machine=X`: the kind of the cores and of their memory.
     Machine,

@@ -3,7 +3,7 @@ use crate::input::Input;
 use kmp_base::Setup;
 
 /// What the command line asks for.
-#[derive(Clone, Copy, Debug, PartialEq, Eq)]
+#[derive(Clone, Copy)]
 pub enum Order {
     /// Run an input, and report the run.
     Run { setup: Setup, input: Input },
