@@ -1,25 +1,42 @@
 //! What is wrong with the words of the command line.
-use thiserror::Error;
+use std::error::Error;
+use std::fmt::{self, Display, Formatter, Write};
 
 /// What is wrong with a word.
-#[derive(Clone, Copy, Debug, Error)]
+#[derive(Clone, Copy, Debug)]
 pub enum WordCause {
-    #[error("there is no command")]
     NoCommand,
-    #[error("there is no such command")]
     UnknownCommand,
-    #[error("the command has no such option")]
     UnknownOption,
-    #[error("the option stands twice")]
     OptionTwice,
-    #[error("the option has no such value")]
     BadValue,
-    #[error("the option excludes another")]
     Excluded,
 }
 
+impl WordCause {
+    /// What is wrong, in words.
+    fn text(self) -> &'static str {
+        match self {
+            WordCause::NoCommand => "there is no command",
+            WordCause::UnknownCommand => "there is no such command",
+            WordCause::UnknownOption => "the command has no such option",
+            WordCause::OptionTwice => "the option stands twice",
+            WordCause::BadValue => "the option has no such value",
+            WordCause::Excluded => "the option excludes another",
+        }
+    }
+}
+
+impl Display for WordCause {
+    fn fmt<W: Write>(&self, f: &mut Formatter<W>) -> fmt::Result {
+        f.write_str(self.text())
+    }
+}
+
+impl Error for WordCause {}
+
 /// Why the words have no meaning, and the number of the faulty word, counted from 1.
-#[derive(Clone, Copy, Debug, Error)]
+#[derive(Clone, Copy, Debug, thiserror::Error)]
 #[error("word {word}: {cause}")]
 pub struct WordFault {
     pub cause: WordCause,
