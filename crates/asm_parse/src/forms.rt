@@ -125,7 +125,8 @@ impl Form {
             Form::Li => Kinds::Two(RT, Kind::Number(WORD)),
             Form::La => Kinds::Two(RT, Kind::Place(WORD)),
             Form::Globl => Kinds::One(Kind::Label),
-            Form::Halt | Form::Nop | Form::Text | Form::Data | Form::Word | Form::Space => Kinds::None,
+            Form::Halt | Form::Nop | Form::Text | Form::Data | Form::Word | Form::Space =>
+                Kinds::None,
         }
     }
 
