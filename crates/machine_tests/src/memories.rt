@@ -1,13 +1,13 @@
 //! Two cores whose requests wait one behind the other.
 ghost use Rattle.std.specs.Prelude.{◌≡◌, ◌<◌, length, IfOk};
 ghost use Rattle.mips_isa.specs.Steps.{IsAccess};
-ghost use Rattle.queued_memory.specs.Script.{Fits};
+ghost use Rattle.machine_tests.specs.Script.{Fits};
 
-use crate::QueuedMemory;
-use access_log::{Entry, History, Item, Request};
-use image_file::{Image, Words, read_image};
+use access_log::{Item, Request};
+use image_file::{Image, read_image};
 use mem_port::{FlatMemory, MemoryCore, Moved, Port, PortState, Withdrawal};
 use mips_isa::Kind;
+use queued_memory::QueuedMemory;
 use std::alloc::Global;
 use std::process::Abort;
 use std::test::Fail;
@@ -16,10 +16,7 @@ use std::test::Fail;
 const ADDR: u32 = 256;
 
 /// An image of `halt`, with a memory of 8,192 lines.
-const HALT: [u8; 24] = [
-    0x4b, 0x4d, 0x50, 0x31, 0x00, 0x20, 0x00, 0x00, 0x02, 0x00, 0x00, 0x00, 0x00, 0x00, 0x00, 0x00,
-    0x0d, 0x00, 0x00, 0x00, 0x00, 0x00, 0x00, 0x00,
-];
+const HALT: [u8; 24] = *b"KMP1\x00\x20\x00\x00\x02\x00\x00\x00\x00\x00\x00\x00\x0d\x00\x00\x00\x00\x00\x00\x00";
 
 /// A memory of two cores, and what was made of their access ports: a request that was served counts
 /// as waiting until its answer is taken.
@@ -40,7 +37,7 @@ impl<M: MemoryCore> Script<M> {
         ensures fits { Fits self.new.made self.new.left (M.view self.new.memory) }
     {
         let PortState::Free = self.made[core as usize] else {
-            panic!(rt; "core {core} has a request")
+            panic!(rt; "it has a request")
         };
         assert!(rt; self.left > 0);
         let request = Request {
@@ -56,12 +53,15 @@ impl<M: MemoryCore> Script<M> {
         self.left -= 1;
     }
 
-    /// Makes a step.
-    fn step(&mut self) -> Moved
+    /// Makes a step, and tells whether something was moved.
+    fn step(&mut self) -> bool
         requires fits { Fits self.old.made self.old.left (M.view self.old.memory) }
         ensures fits { Fits self.new.made self.new.left (M.view self.new.memory) }
     {
-        self.memory.step(0)
+        match self.memory.step(0) {
+            Moved::Moved => true,
+            Moved::Idle => false,
+        }
     }
 
     /// Makes so many steps, each of which moves something.
@@ -70,7 +70,7 @@ impl<M: MemoryCore> Script<M> {
         ensures fits { Fits self.new.made self.new.left (M.view self.new.memory) }
     {
         for _ in 0..count {
-            assert_eq!(rt; self.step(), Moved::Moved);
+            assert!(rt; self.step());
         }
     }
 
@@ -81,34 +81,43 @@ impl<M: MemoryCore> Script<M> {
         ensures fits { Fits self.new.made self.new.left (M.view self.new.memory) }
     {
         let PortState::Waiting(_) = self.made[core as usize] else {
-            panic!(rt; "nothing was served for core {core}")
+            panic!(rt; "nothing was served")
         };
         let word = self.memory.take(Port::Access(core))?;
         self.made[core as usize] = PortState::Free;
         Some(word)
     }
 
-    /// Withdraws the request.
-    fn withdraw(&mut self, rt: &impl Abort, core: u32) -> Withdrawal
+    /// Withdraws the request, and tells the answer of one that was done.
+    fn withdraw(&mut self, rt: &impl Abort, core: u32) -> Option<u32>
         requires fits { Fits self.old.made self.old.left (M.view self.old.memory) }
         requires core { core < 2 }
         ensures fits { Fits self.new.made self.new.left (M.view self.new.memory) }
     {
         let PortState::Waiting(_) = self.made[core as usize] else {
-            panic!(rt; "nothing was served for core {core}")
+            panic!(rt; "nothing was served")
         };
         self.made[core as usize] = PortState::Closed;
-        self.memory.withdraw(Port::Access(core))
+        match self.memory.withdraw(Port::Access(core)) {
+            Withdrawal::Withdrawn => None,
+            Withdrawal::Answered(word) => Some(word),
+        }
     }
 
-    /// What is left when both ports are closed.
-    fn settle(self, rt: &impl Abort) -> (Words, History)
+    /// What memory has at the address when both ports are closed, and what core 0 stored there, which
+    /// is all that was done.
+    fn settle(self, rt: &impl Abort) -> (u32, Option<u32>)
         requires fits { Fits self.made self.left (M.view self.memory) }
     {
         let [PortState::Closed, PortState::Closed] = self.made else {
             panic!(rt; "a port isn't closed")
         };
-        self.memory.settle()
+        let (words, history) = self.memory.settle();
+        let [Item::Done(entry)] = history.items() else {
+            panic!(rt; "not one access was done")
+        };
+        assert!(rt; entry.core == 0 && words.words.len() > 64);
+        (words.words[64], entry.new)
     }
 }
 
@@ -118,8 +127,7 @@ fn halt(rt: &impl Abort, alloc: Global) -> Result<Image, Fail>
     ensures lines { IfOk result (λ image. image.memory_lines ≡ 8192) }
 {
     let image = read_image(alloc, &HALT)?;
-    assert_eq!(rt; image.code.len(), 2);
-    assert_eq!(rt; image.memory_lines, 8192);
+    assert!(rt; image.code.len() == 2 && image.memory_lines == 8192);
     Ok(image)
 }
 
@@ -136,52 +144,47 @@ fn start(rt: &impl Abort, alloc: Global) -> Result<Script<QueuedMemory<FlatMemor
     })
 }
 
-/// An access of a core that had executed nothing before.
-fn done(core: u32, kind: Kind, old: u32, new: Option<u32>) -> Item {
-    Item::Done(Entry {
-        core,
-        nth: 0,
-        kind,
-        addr: ADDR,
-        old,
-        new,
-    })
-}
-
 #[test]
 fn requests_wait_in_a_queue(rt: HostRuntime) -> Result<(), Fail> {
     let mut script = start(&rt, rt.alloc())?;
     script.send(&rt, 0, Kind::Sw, 7);
     script.send(&rt, 1, Kind::Lw, 0);
-    assert_eq!(rt; script.take(&rt, 0), None);
-    assert_eq!(rt; script.take(&rt, 1), None);
     script.steps(&rt, 10);
-    assert_eq!(rt; script.take(&rt, 0), None);
+    assert!(rt; script.take(&rt, 0).is_none());
     script.steps(&rt, 1);
-    assert_eq!(rt; script.take(&rt, 0), Some(0));
+    assert!(rt; script.take(&rt, 0) == Some(0));
     script.steps(&rt, 10);
-    assert_eq!(rt; script.take(&rt, 1), None);
+    assert!(rt; script.take(&rt, 1).is_none());
     script.steps(&rt, 1);
-    assert_eq!(rt; script.take(&rt, 1), Some(7));
-    assert_eq!(rt; script.step(), Moved::Idle);
+    assert!(rt; script.take(&rt, 1) == Some(7));
+    assert!(rt; !script.step());
+    Ok(())
+}
 
-    script.send(&rt, 0, Kind::Sw, 9);
+#[test]
+fn the_next_request_needs_all_its_steps(rt: HostRuntime) -> Result<(), Fail> {
+    let mut script = start(&rt, rt.alloc())?;
+    script.send(&rt, 0, Kind::Sw, 7);
     script.send(&rt, 1, Kind::Lw, 0);
     script.steps(&rt, 4);
-    assert_eq!(rt; script.withdraw(&rt, 0), Withdrawal::Withdrawn);
+    assert!(rt; script.withdraw(&rt, 0).is_none());
     script.steps(&rt, 10);
-    assert_eq!(rt; script.take(&rt, 1), None);
+    assert!(rt; script.take(&rt, 1).is_none());
     script.steps(&rt, 1);
-    assert_eq!(rt; script.withdraw(&rt, 1), Withdrawal::Answered(7));
-    assert_eq!(rt; script.step(), Moved::Idle);
+    assert!(rt; script.take(&rt, 1) == Some(0));
+    Ok(())
+}
 
-    let (words, history) = script.settle(&rt);
-    assert_eq!(rt; words.words.get(64).copied(), Some(7));
-    let items = [
-        done(0, Kind::Sw, 0, Some(7)),
-        done(1, Kind::Lw, 7, None),
-        done(1, Kind::Lw, 7, None),
-    ];
-    assert_eq!(rt; history.items(), items.as_slice());
+#[test]
+fn what_was_done_stays_done(rt: HostRuntime) -> Result<(), Fail> {
+    let mut script = start(&rt, rt.alloc())?;
+    script.send(&rt, 0, Kind::Sw, 7);
+    script.send(&rt, 1, Kind::Sw, 9);
+    script.steps(&rt, 11);
+    assert!(rt; script.withdraw(&rt, 0) == Some(0));
+    script.steps(&rt, 4);
+    assert!(rt; script.withdraw(&rt, 1).is_none());
+    assert!(rt; !script.step());
+    assert!(rt; script.settle(&rt) == (7, Some(7)));
     Ok(())
 }

@@ -1,6 +1,6 @@
 use Rattle.std.proofs.Common.{rules, arith}
-use Rattle.queued_memory.proofs.ScriptLaws.{fits-sends}
-use Rattle.queued_memory.proofs.tests.Script.send.Goals as goal
+use Rattle.machine_tests.proofs.ScriptLaws.{fits-sends}
+use Rattle.machine_tests.proofs.memories.Script.send.Goals as goal
 
 pub returns : goal.returns
 returns g c = record {

@@ -1,6 +1,6 @@
 use Rattle.std.proofs.Common.{rules}
-use Rattle.queued_memory.proofs.ScriptLaws.{fits-withdraws}
-use Rattle.queued_memory.proofs.tests.Script.withdraw.Goals as goal
+use Rattle.machine_tests.proofs.ScriptLaws.{fits-withdraws}
+use Rattle.machine_tests.proofs.memories.Script.withdraw.Goals as goal
 
 pub returns : goal.returns
 returns g c = record {

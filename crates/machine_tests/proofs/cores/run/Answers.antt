@@ -1,6 +1,6 @@
 use Rattle.std.proofs.Common.{◌≡◌, refl, sym, ◌∙◌, arith}
 use Rattle.mem_port.specs.Memory.{IsFresh}
-use Rattle.queued_memory.proofs.runs.run.Goals as goal
+use Rattle.machine_tests.proofs.cores.run.Goals as goal
 
 pub run_seats-requires-clause-fresh : goal.run_seats-requires-clause-fresh
 run_seats-requires-clause-fresh c =

@@ -15,7 +15,7 @@ use Rattle.mem_port.specs.Ports.{core_of}
 use Rattle.mem_port.specs.Memory.{MemoryView, IsLawful, IsFresh, Keeps, Asks, Serves, Leaves, Withdraws}
 use Rattle.mem_port.specs.Side.{mark}
 use Rattle.mem_port.proofs.SideLaws.{kept_twice, serves-side}
-use Rattle.queued_memory.specs.Script.{Fits}
+use Rattle.machine_tests.specs.Script.{Fits}
 
 module _ (made : List PortState) (left : ℕ) (m : MemoryView) (fits : Fits made left m) where
   -- A call on the access port of one core.

@@ -1,6 +1,6 @@
 use Rattle.std.proofs.Common.{arith}
-use Rattle.queued_memory.proofs.ScriptLaws.{fits-fresh}
-use Rattle.queued_memory.proofs.tests.start.Goals as goal
+use Rattle.machine_tests.proofs.ScriptLaws.{fits-fresh}
+use Rattle.machine_tests.proofs.memories.start.Goals as goal
 
 pub returns : goal.returns
 returns g c = record {
