@@ -83,9 +83,11 @@ impl<M: MemoryCore> Script<M> {
         let PortState::Waiting(_) = self.made[core as usize] else {
             panic!(rt; "nothing was served")
         };
-        let word = self.memory.take(Port::Access(core))?;
-        self.made[core as usize] = PortState::Free;
-        Some(word)
+        let answer = self.memory.take(Port::Access(core));
+        if answer.is_some() {
+            self.made[core as usize] = PortState::Free;
+        }
+        answer
     }
 
     /// Withdraws the request, and tells the answer of one that was done.
@@ -98,10 +100,8 @@ impl<M: MemoryCore> Script<M> {
             panic!(rt; "nothing was served")
         };
         self.made[core as usize] = PortState::Closed;
-        match self.memory.withdraw(Port::Access(core)) {
-            Withdrawal::Withdrawn => None,
-            Withdrawal::Answered(word) => Some(word),
-        }
+        let withdrawal = self.memory.withdraw(Port::Access(core));
+        answer_in(withdrawal)
     }
 
     /// What memory has at the address when both ports are closed, and what core 0 stored there, which
@@ -118,6 +118,14 @@ impl<M: MemoryCore> Script<M> {
         };
         assert!(rt; entry.core == 0 && words.words.len() > 64);
         (words.words[64], entry.new)
+    }
+}
+
+/// The answer of a request that was done when it was withdrawn.
+fn answer_in(withdrawal: Withdrawal) -> Option<u32> {
+    match withdrawal {
+        Withdrawal::Withdrawn => None,
+        Withdrawal::Answered(word) => Some(word),
     }
 }
 
@@ -144,47 +152,55 @@ fn start(rt: &impl Abort, alloc: Global) -> Result<Script<QueuedMemory<FlatMemor
     })
 }
 
+/// Each request is answered when it was the first one for eleven steps.
+fn check_waits<M: MemoryCore>(rt: &impl Abort, script: &mut Script<M>)
+    requires fits { Fits script.old.made script.old.left (M.view script.old.memory) }
+{
+    script.send(rt, 0, Kind::Sw, 7);
+    script.send(rt, 1, Kind::Lw, 0);
+    script.steps(rt, 10);
+    assert!(rt; script.take(rt, 0).is_none());
+    script.steps(rt, 1);
+    assert!(rt; script.take(rt, 0) == Some(0));
+    script.steps(rt, 10);
+    assert!(rt; script.take(rt, 1).is_none());
+    script.steps(rt, 1);
+    assert!(rt; script.take(rt, 1) == Some(7));
+    assert!(rt; !script.step());
+}
+
+/// Behind a request that is given up, the next one needs all its steps.
+fn check_next<M: MemoryCore>(rt: &impl Abort, script: &mut Script<M>)
+    requires fits { Fits script.old.made script.old.left (M.view script.old.memory) }
+{
+    script.send(rt, 0, Kind::Sw, 7);
+    script.send(rt, 1, Kind::Lw, 0);
+    script.steps(rt, 4);
+    assert!(rt; script.withdraw(rt, 0).is_none());
+    script.steps(rt, 10);
+    assert!(rt; script.take(rt, 1).is_none());
+    script.steps(rt, 1);
+    assert!(rt; script.take(rt, 1) == Some(0));
+}
+
+/// What was done stays done, and what was given up is never done.
+fn check_ends<M: MemoryCore>(rt: &impl Abort, mut script: Script<M>)
+    requires fits { Fits script.made script.left (M.view script.memory) }
+{
+    script.send(rt, 0, Kind::Sw, 7);
+    script.send(rt, 1, Kind::Sw, 9);
+    script.steps(rt, 11);
+    assert!(rt; script.withdraw(rt, 0) == Some(0));
+    script.steps(rt, 4);
+    assert!(rt; script.withdraw(rt, 1).is_none());
+    assert!(rt; !script.step());
+    assert!(rt; script.settle(rt) == (7, Some(7)));
+}
+
 #[test]
 fn requests_wait_in_a_queue(rt: HostRuntime) -> Result<(), Fail> {
-    let mut script = start(&rt, rt.alloc())?;
-    script.send(&rt, 0, Kind::Sw, 7);
-    script.send(&rt, 1, Kind::Lw, 0);
-    script.steps(&rt, 10);
-    assert!(rt; script.take(&rt, 0).is_none());
-    script.steps(&rt, 1);
-    assert!(rt; script.take(&rt, 0) == Some(0));
-    script.steps(&rt, 10);
-    assert!(rt; script.take(&rt, 1).is_none());
-    script.steps(&rt, 1);
-    assert!(rt; script.take(&rt, 1) == Some(7));
-    assert!(rt; !script.step());
-    Ok(())
-}
-
-#[test]
-fn the_next_request_needs_all_its_steps(rt: HostRuntime) -> Result<(), Fail> {
-    let mut script = start(&rt, rt.alloc())?;
-    script.send(&rt, 0, Kind::Sw, 7);
-    script.send(&rt, 1, Kind::Lw, 0);
-    script.steps(&rt, 4);
-    assert!(rt; script.withdraw(&rt, 0).is_none());
-    script.steps(&rt, 10);
-    assert!(rt; script.take(&rt, 1).is_none());
-    script.steps(&rt, 1);
-    assert!(rt; script.take(&rt, 1) == Some(0));
-    Ok(())
-}
-
-#[test]
-fn what_was_done_stays_done(rt: HostRuntime) -> Result<(), Fail> {
-    let mut script = start(&rt, rt.alloc())?;
-    script.send(&rt, 0, Kind::Sw, 7);
-    script.send(&rt, 1, Kind::Sw, 9);
-    script.steps(&rt, 11);
-    assert!(rt; script.withdraw(&rt, 0) == Some(0));
-    script.steps(&rt, 4);
-    assert!(rt; script.withdraw(&rt, 1).is_none());
-    assert!(rt; !script.step());
-    assert!(rt; script.settle(&rt) == (7, Some(7)));
+    check_waits(&rt, &mut start(&rt, rt.alloc())?);
+    check_next(&rt, &mut start(&rt, rt.alloc())?);
+    check_ends(&rt, start(&rt, rt.alloc())?);
     Ok(())
 }

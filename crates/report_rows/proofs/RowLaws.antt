@@ -19,7 +19,7 @@ use Rattle.report_rows.specs.declared.read.EndRow.{EndRow}
 use Rattle.report_rows.specs.Names.{policy_name, turns_name}
 use Rattle.report_rows.specs.Bounds.{IsWord, IsByte, IsTime, IsPlace, IsEntry, IsMemoryWord, IsCount}
 use Rattle.report_rows.specs.Rows.{word_row, number_row, bytes_row, entry_row, core_row, memory_row, count_row}
-use Rattle.report_rows.specs.Reading.{behind_name, fixed_of, number_from, number_row_of, sets_row_of, policy_row_of, turns_row_of, bytes_row_of, entry_row_of, entry_words_of, end_row_of, end_numbers_of, two_words_at, four_words_at, eight_words_of, registers_row_of, memory_row_of, count_row_of}
+use Rattle.report_rows.specs.Reading.{behind_name, fixed_of, number_from, number_row_of, sets_row_of, policy_row_of, turns_row_of, bytes_row_of, entry_row_of, entry_access_of, entry_words_of, end_row_of, end_numbers_of, two_words_at, four_words_at, eight_words_of, registers_row_of, memory_row_of, count_row_of}
 use Rattle.report_rows.proofs.ValueLaws.{policy_field, turns_field, kind_field, end_field, from_field, sets_field, place_field, place_from_field, some_word_field}
 
 -- ---- rows that say one thing, or a name and a value
@@ -86,7 +86,7 @@ EntryFields cores bytes z =
     Unit {0} × (Unit {0} × ((z.core ≤ cores - 1) × (IsTime z.nth × ((z.kind ≢ Fetch) × (IsPlace bytes z.addr × (IsWord z.old × (IfSome z.new IsWord × Unit {0})))))))
 
 entry_fields : (cores bytes : ℕ) → cores ≤ 8 → bytes ≤ 2 ^ 32 → IsRow (EntryFields cores bytes) entry_row (entry_row_of cores bytes)
-unfolding entry_row_of entry_words_of make_entry
+unfolding entry_row_of entry_access_of entry_words_of make_entry
 entry_fields cores bytes few fits =
     then_field _ _ _ (λ z. tt) _ _ _ _ (exactly_field (codes "A")) (λ title _.
     then_field _ _ _ (λ z. z.core) _ _ _ _ (number_field (cores - 1) (omega arith)) (λ core _.

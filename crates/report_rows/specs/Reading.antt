@@ -111,13 +111,19 @@ is_place bytes addr = addr % 4 == 0 && nat_lt addr bytes
 unfoldable pub place_of : ℕ → List ℕ → Option ℕ
 place_of bytes text = word_of text >>= λ addr. if is_place bytes addr then Some addr else None
 
--- the address and the words of an access, behind its core, its number and its kind
-unfoldable pub entry_words_of : ℕ → ℕ → ℕ → Kind → Row → Option Entry
-entry_words_of bytes core nth kind row = do
-  addr ← field_at (place_of bytes) row
-  old ← field_at word_of addr.1
+-- the words of an access, behind its core, its number, its kind and its address
+unfoldable pub entry_words_of : ℕ → ℕ → Kind → ℕ → Row → Option Entry
+entry_words_of core nth kind addr row = do
+  old ← field_at word_of row
   new ← field_at optional_word_of old.1
-  ended (record { core = core; nth = nth; kind = kind; addr = addr.0; old = old.0; new = new.0 }) new.1
+  ended (record { core = core; nth = nth; kind = kind; addr = addr; old = old.0; new = new.0 }) new.1
+
+-- the kind, the address and the words of an access, behind its core and its number
+unfoldable pub entry_access_of : ℕ → ℕ → ℕ → Row → Option Entry
+entry_access_of bytes core nth row = do
+  kind ← field_at kind_of row
+  addr ← field_at (place_of bytes) kind.1
+  entry_words_of core nth kind.0 addr.0 addr.1
 
 -- an access of one of so many cores, at a word within so many bytes
 unfoldable pub entry_row_of : ℕ → ℕ → Row → Option Entry
@@ -125,8 +131,7 @@ entry_row_of cores bytes row = do
   title ← field_at (exactly (codes "A")) row
   core ← field_at (number_of (cores - 1)) title.1
   nth ← field_at (number_of 100002) core.1
-  kind ← field_at kind_of nth.1
-  entry_words_of bytes core.0 nth.0 kind.0 kind.1
+  entry_access_of bytes core.0 nth.0 nth.1
 
 -- ---- ends of cores
 

@@ -3,7 +3,7 @@ ghost use Rattle.std.specs.Prelude.{◌≡◌, ◌+◌, ◌<◌, ◌≤◌, [], 
 ghost use Rattle.std.specs.Fn.{FnReturnsAt};
 ghost use Rattle.std.specs.Option.{option_copied};
 ghost use Rattle.row_reader.specs.Fields.{Finds, parts_of, parts_left};
-ghost use Rattle.report_rows.specs.Reading.{fixed_of, behind_name, number_row_of, sets_row_of, policy_row_of, turns_row_of, bytes_row_of, entry_row_of, entry_words_of, end_row_of, end_numbers_of, two_words_at, four_words_at, eight_words_of, registers_row_of, memory_row_of, count_row_of};
+ghost use Rattle.report_rows.specs.Reading.{fixed_of, behind_name, number_row_of, sets_row_of, policy_row_of, turns_row_of, bytes_row_of, entry_row_of, entry_access_of, entry_words_of, end_row_of, end_numbers_of, two_words_at, four_words_at, eight_words_of, registers_row_of, memory_row_of, count_row_of};
 
 use crate::MemoryWord;
 use crate::fields::{
@@ -104,12 +104,11 @@ pub fn bytes_row(row: &[u8], into: &mut [u8]) -> Option<()>
     ended((), rest)
 }
 
-/// The address and the words of an access, behind its core, its number and its kind.
+/// The words of an access, behind its core, its number, its kind and its address.
 #[tactic(auto, unfolding(crate::specs::Reading::entry_words_of))]
-fn entry_words(rest: Parts, bytes: u32, core: u32, nth: u32, kind: Kind) -> Option<Entry>
-    ensures { result ≡ entry_words_of bytes core nth kind (parts_left (option_copied rest.entry)) }
+fn entry_words(rest: Parts, core: u32, nth: u32, kind: Kind, addr: u32) -> Option<Entry>
+    ensures { result ≡ entry_words_of core nth kind addr (parts_left (option_copied rest.entry)) }
 {
-    let (addr, rest) = field(rest, |text| place_of(text, bytes))?;
     let (old, rest) = word(rest)?;
     let (new, rest) = optional_word(rest)?;
     let entry = Entry {
@@ -123,6 +122,16 @@ fn entry_words(rest: Parts, bytes: u32, core: u32, nth: u32, kind: Kind) -> Opti
     ended(entry, rest)
 }
 
+/// The kind, the address and the words of an access, behind its core and its number.
+#[tactic(auto, unfolding(crate::specs::Reading::entry_access_of))]
+fn entry_access(rest: Parts, bytes: u32, core: u32, nth: u32) -> Option<Entry>
+    ensures { result ≡ entry_access_of bytes core nth (parts_left (option_copied rest.entry)) }
+{
+    let (kind, rest) = field(rest, kind_of)?;
+    let (addr, rest) = field(rest, |text| place_of(text, bytes))?;
+    entry_words(rest, core, nth, kind, addr)
+}
+
 /// An access of one of so many cores, at a word within so many bytes.
 #[tactic(auto, unfolding(crate::specs::Reading::entry_row_of))]
 pub fn entry_row(row: &[u8], cores: u32, bytes: u32) -> Option<Entry>
@@ -132,8 +141,7 @@ pub fn entry_row(row: &[u8], cores: u32, bytes: u32) -> Option<Entry>
     let (_, rest) = name(Some(row), b"A")?;
     let (core, rest) = number(rest, u64::from(cores - 1))?;
     let (nth, rest) = number(rest, 100002)?;
-    let (kind, rest) = field(rest, kind_of)?;
-    entry_words(rest, bytes, core as u32, nth as u32, kind)
+    entry_access(rest, bytes, core as u32, nth as u32)
 }
 
 /// The cycles, the instructions and the counters of a core, behind how it ended.
