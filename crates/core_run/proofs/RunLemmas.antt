@@ -40,6 +40,14 @@ use Rattle.core_run.proofs.OwnLemmas.{entries-within}
 use Rattle.core_run.proofs.RoundLemmas.{AreSeated, AreTimed}
 use Rattle.core_run.proofs.TurnLemmas.{taken-all}
 
+slice_get-middle : {X : Type 0} (xs : List X) (x : X) (ys : List X) → slice_get (xs ++ x ∷ ys) (length xs) ≡ Some x
+slice_get-middle [] x ys = refl
+slice_get-middle (first ∷ xs) x ys = slice_get-middle xs x ys
+
+-- The first of the rest stands behind those before.
+pub slice_get-next : {X : Type 0} (items xs rest ys : List X) (x : X) → items ≡ xs ++ rest → rest ≡ x ∷ ys → slice_get items (length xs) ≡ Some x
+slice_get-next items xs rest ys x are first = rw (are, first) (slice_get-middle xs x ys)
+
 -- What holds of two lists element by element, after one was appended to each.
 pub push-each : {X Y : Type 0} (R : X → Y → Type 0) (xs : List X) (ys : List Y) (x : X) (y : Y) → length ys ≡ length xs → R x y
     → ((k : ℕ) (b : Y) → slice_get ys k ≡ Some b → (a : X) × ((slice_get xs k ≡ Some a) × R a b))

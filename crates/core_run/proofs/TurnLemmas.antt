@@ -2,7 +2,10 @@
 use Rattle.std.proofs.Common.{◌≡◌, ◌≢◌, ℕ, ◌+◌, ◌≤◌, inl, inr, Bool, true, false, IsTrue, Some, None, List, [], ◌∷◌, ◌++◌, length, append-nil, refl, ap, sym, ◌∙◌, subst, arith}
 use Rattle.std.specs.Prelude.{Option, is_some, ◌==◌, if◌then◌else◌}
 use Rattle.std.specs.List.{AllByRecursion}
+use Rattle.std.proofs.lemmas.Bool.{eqb-true, eq-eqb}
 use Rattle.std.proofs.lemmas.List.{append_cancel_left}
+use Rattle.std.proofs.lemmas.Option.{same_Some}
+use Rattle.mips_isa.specs.declared.Stop.{Stop}
 use Rattle.access_log.specs.declared.Entry.{Entry}
 use Rattle.access_log.specs.declared.Item.{Item}
 use Rattle.access_log.specs.Items.{entries, own_items}
@@ -10,21 +13,22 @@ use Rattle.access_log.specs.Requests.{entry_of}
 use Rattle.access_log.specs.Stamps.{Stamp, stamped}
 use Rattle.access_log.proofs.ItemLaws.{entries-append, own_items-append}
 use Rattle.timetable.specs.declared.End.{End}
-use Rattle.timetable.specs.declared.End.TheVariants.{Spent}
+use Rattle.timetable.specs.declared.End.TheVariants.{Stopped, Spent}
 use Rattle.mem_port.specs.declared.port.Port.{Port}
 use Rattle.mem_port.specs.declared.port.Port.TheVariants.{Access}
 use Rattle.mem_port.specs.declared.port.PortState.{PortState}
 use Rattle.mem_port.specs.declared.port.PortState.TheVariants.{Free, Asked, Waiting, Answered, Closed}
 use Rattle.mem_port.specs.declared.engine.Progress.{Progress}
 use Rattle.mem_port.specs.declared.engine.Progress.TheVariants as progress
+use Rattle.mem_port.specs.Loaded.{stop}
 use Rattle.mem_port.specs.Ports.{IsWaiting, HoldsEntry, taken_of}
 use Rattle.mem_port.specs.Memory.{MemoryView, IsLawful, IsAtOnce, committed}
 use Rattle.mem_port.specs.Engine.{EngineView}
 use Rattle.mem_port.specs.Pace.{Pace}
 use Rattle.mem_port.specs.Side.{SideView, KeepsSide, LeavesOthers, Evolves, Unasked, mark, side_of}
 use Rattle.core_run.specs.declared.lane.Lane.{Lane}
-use Rattle.core_run.specs.Lanes.{AccessPort, IsCoupled, IsFinished, IsClosed, IsQuiet, Progressed, WaitsLess, at_once, pace_of, wait_left}
-use Rattle.core_run.specs.Serial.{IsOn, SeatHolds, IsPunctual, AddsOwn, goes_on, end_after}
+use Rattle.core_run.specs.Lanes.{AccessPort, IsCoupled, StopsWhereDead, UsesAsks, IsFinished, IsClosed, IsQuiet, Progressed, WaitsLess, at_once, pace_of, wait_left}
+use Rattle.core_run.specs.Serial.{EndFits, IsOn, IsOver, SeatHolds, IsPunctual, AddsOwn, goes_on, end_after}
 use Rattle.core_run.proofs.OwnLemmas.{entries-own, own-all}
 
 -- Every answer comes as its request is served, so that nothing waits.
@@ -131,6 +135,55 @@ pub is-on : {rounds budget : ℕ} {m : MemoryView} {e : EngineView} {lane : Lane
     → SeatHolds end rounds budget m e lane cycles → IsOn rounds budget m e lane cycles
 is-on None none h = h
 is-on (Some end) none h = cc
+
+-- A core that has stopped stands at its stop.
+pub dead-stops : (result : Progress) (e : EngineView) → Progressed result e → StopsWhereDead e
+dead-stops progress.Running e live dead = cc
+dead-stops (progress.Stopped why) e h dead = (why, h.1)
+
+fits-spent : (is : Bool) (cycles budget : ℕ) (end : End) (stops : Option Stop) → (is ≡ true → cycles ≡ budget) → (if is then Some Spent else None) ≡ Some end → EndFits end budget cycles stops
+fits-spent true cycles budget end stops at h = subst (λ (e : End). EndFits e budget cycles stops) (same_Some Spent end h) (at refl)
+fits-spent false cycles budget end stops at h = cc
+
+-- The end that a cycle makes is one of its core.
+end-fits : (result : Progress) (cycles budget : ℕ) (end : End) (x y : EngineView) → Progressed result x → end_after result cycles budget ≡ Some end → cycles ≤ budget
+    → (x.is_live ≡ false → y ≡ x) → EndFits end budget cycles (stop y.image y.state)
+end-fits progress.Running cycles budget end x y live is within same = fits-spent (cycles == budget) cycles budget end _ (eqb-true cycles budget) is
+end-fits (progress.Stopped why) cycles budget end x y h is within same =
+    subst (λ (e : End). EndFits e budget cycles (stop y.image y.state)) (same_Some (Stopped why) end is) (rw (same h.0) h.1, within)
+
+-- The turn that ends a core.
+pub ended-seat : {budget cycles : ℕ} {after : MemoryView} {x y : EngineView} {lane : Lane} (m : MemoryView) (result : Progress) (end : End) (was_open : Bool) → Progressed result x
+    → end_after result cycles budget ≡ Some end → cycles ≤ budget → (x.is_live ≡ false → was_open ≡ false) → (was_open ≡ false → y ≡ x)
+    → IsFinished y (side_of m lane.core) lane.core → after ≡ m → IsOver budget after y lane end cycles
+ended-seat {budget} {cycles} {after} {x} {y} m result end was_open progressed is within dead still finished same =
+    rw same (record { finished = finished; fits = end-fits result cycles budget end x y progressed is within (λ no. still (dead no)) })
+
+spent-some : (is : Bool) → is ≡ true → (if is then Some Spent else None) ≡ None → ⊥
+spent-some true same h = cc
+spent-some false same h = cc
+
+-- A cycle that ends nothing leaves its core live, and a cycle of the budget.
+runs-on : (result : Progress) (cycles budget : ℕ) (e : EngineView) → Progressed result e → end_after result cycles budget ≡ None → (e.is_live ≡ true) × (cycles ≢ budget)
+runs-on progress.Running cycles budget e live is = (live, λ at. spent-some (cycles == budget) (eq-eqb cycles budget at) is)
+runs-on (progress.Stopped why) cycles budget e h is = cc
+
+-- The turn of a core that runs on.
+pub next-seat : {rounds budget cycles : ℕ} {old after : MemoryView} {x y : EngineView} {lane next : Lane} (new : MemoryView) (result : Progress) → IsOn rounds budget old x lane cycles
+    → Progressed result y → end_after result (cycles + 1) budget ≡ None → next.core ≡ lane.core → IsCoupled None None y (side_of new next.core) next
+    → y.clocks_left + 1 ≡ x.clocks_left → UsesAsks lane.core 1 1 (side_of old lane.core) (side_of new lane.core) → after ≡ new → IsOn (rounds + 1) budget after y next (cycles + 1)
+next-seat {rounds} {budget} {cycles} {old} {after} {x} {y} {lane} {next} new result on progressed is core_is coupled clocks asks same =
+    let runs = runs-on result (cycles + 1) budget y progressed is in
+    let behind = runs.1 in
+    rw same (record {
+      coupled = coupled;
+      live = runs.0;
+      count = omega (arith, on.count);
+      more = omega (arith, on.more, on.count, behind);
+      clocks = omega (arith, on.clocks, clocks);
+      fetches = rw core_is (omega (arith, on.fetches, asks.fetch));
+      accesses = rw core_is (omega (arith, on.accesses, asks.access));
+    })
 
 quiet-closed : (e : EngineView) (s : SideView) (lane : Lane) → IsCoupled None None e s lane → IsClosed lane → IsQuiet (mark (s.port (Access lane.core)))
 quiet-closed e s lane coupled closed =

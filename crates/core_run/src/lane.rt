@@ -15,7 +15,7 @@ use access_log::Request;
 use mem_port::{CoreEngine, Port, Progress, Withdrawal};
 
 /// Which requests of a core are open: served, and their answers not taken yet.
-#[derive(Clone, Copy, Debug, PartialEq, Eq)]
+#[derive(Clone, Copy)]
 pub struct Lane {
     pub core: u32,
     pub open_fetch: bool,

@@ -6,8 +6,6 @@ mod plain;
 mod run;
 mod serial;
 mod side;
-#[cfg(test)]
-mod tests;
 mod timed;
 
 pub use lane::{Lane, cycle, finish};

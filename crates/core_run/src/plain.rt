@@ -13,7 +13,7 @@ use std::alloc::Global;
 use timetable::Rows;
 
 /// Where the core is in its present instruction.
-#[derive(Clone, Copy, Debug, PartialEq, Eq)]
+#[derive(Clone, Copy)]
 pub enum Phase {
     /// At its begin: the word of code is wanted, where one stands there.
     Begin,

@@ -10,7 +10,7 @@ use access_log::{History, Item, Request, due, store};
 use image_file::Image;
 
 /// A port, and how many requests may still be asked there.
-#[derive(Clone, Copy, Debug, PartialEq, Eq)]
+#[derive(Clone, Copy)]
 pub struct Cell {
     pub state: PortState,
     pub asks: u32,

@@ -7,7 +7,7 @@ use access_log::Request;
 use mips_isa::{CoreState, Stop};
 
 /// How a clock of an engine ended.
-#[derive(Clone, Copy, Debug, PartialEq, Eq)]
+#[derive(Clone, Copy)]
 pub enum Progress {
     Running,
     /// The core came to a stop, and will not be clocked again.

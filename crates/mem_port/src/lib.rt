@@ -16,6 +16,3 @@ pub use flat::FlatMemory;
 pub use memory::MemoryCore;
 pub use port::{Moved, Port, PortState, Withdrawal};
 pub use std::alloc::AllocError as NoMemory;
-
-#[cfg(test)]
-mod tests;

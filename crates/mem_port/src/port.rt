@@ -2,7 +2,7 @@
 use access_log::Request;
 
 /// A port of the core with a number.
-#[derive(Clone, Copy, Debug, PartialEq, Eq)]
+#[derive(Clone, Copy, PartialEq, Eq)]
 pub enum Port {
     /// For words of code.
     Fetch(u32),
@@ -11,7 +11,7 @@ pub enum Port {
 }
 
 /// What has become of the request on a port.
-#[derive(Clone, Copy, Debug, PartialEq, Eq)]
+#[derive(Clone, Copy)]
 pub enum PortState {
     /// There is none.
     Free,
@@ -26,7 +26,7 @@ pub enum PortState {
 }
 
 /// Whether a step of memory moved something.
-#[derive(Clone, Copy, Debug, PartialEq, Eq)]
+#[derive(Clone, Copy)]
 pub enum Moved {
     Moved,
     /// There was nothing to be moved.
@@ -34,7 +34,7 @@ pub enum Moved {
 }
 
 /// What became of a request that was withdrawn.
-#[derive(Clone, Copy, Debug, PartialEq, Eq)]
+#[derive(Clone, Copy)]
 pub enum Withdrawal {
     /// It had no answer, and there won't be one.
     Withdrawn,

@@ -1,4 +1,3 @@
 pub mod QueueLemmas
 pub mod QueueLaws
 pub mod CallLaws
-pub mod ScriptLaws

@@ -5,9 +5,5 @@
 #![tactic(auto)]
 
 mod queue;
-#[cfg(test)]
-mod runs;
-#[cfg(test)]
-mod tests;
 
 pub use queue::QueuedMemory;

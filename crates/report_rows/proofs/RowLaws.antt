@@ -1,6 +1,6 @@
 -- What is read of a row is what the row spells.
-use Rattle.std.proofs.Common.{◌≡◌, ◌≢◌, ℕ, ◌-◌, ◌^◌, ◌<◌, ◌≤◌, List, [], ◌∷◌, length, map, get_or, decimal, Option, refl, sym, ap, ◌∙◌, subst, arith}
-use Rattle.std.specs.Prelude.{codes, IfSome}
+use Rattle.std.proofs.Common.{◌≡◌, ◌≢◌, ℕ, ◌-◌, ◌^◌, ◌<◌, ◌≤◌, List, [], ◌∷◌, ◌++◌, length, map, get_or, decimal, Option, refl, sym, ap, ◌∙◌, subst, arith}
+use Rattle.std.specs.Prelude.{codes, IfSome, Some, None}
 use Rattle.std.specs.List.{AllByRecursion, range_with_len}
 use Rattle.std.proofs.lemmas.List.FromFn.{fill_by_all}
 use Rattle.kmp_base.specs.Text.{hex8}
@@ -9,7 +9,8 @@ use Rattle.mips_isa.specs.declared.Kind.TheVariants.{Fetch}
 use Rattle.access_log.specs.declared.Entry.{Entry}
 use Rattle.timetable.specs.declared.End.{End}
 use Rattle.row_reader.specs.Rows.{Row}
-use Rattle.row_reader.specs.Numbers.{exactly}
+use Rattle.row_reader.specs.Fields.{◌>>=◌, field_at, ended}
+use Rattle.row_reader.specs.Numbers.{exactly, word_of}
 use Rattle.row_reader.proofs.PartLaws.{IsRow}
 use Rattle.row_reader.proofs.FieldLaws.{IsField, then_field, last_field, row_as}
 use Rattle.row_reader.proofs.NumberLaws.{number_field, word_field, optional_field, exactly_field, bytes_field}
@@ -18,7 +19,7 @@ use Rattle.report_rows.specs.declared.read.EndRow.{EndRow}
 use Rattle.report_rows.specs.Names.{policy_name, turns_name}
 use Rattle.report_rows.specs.Bounds.{IsWord, IsByte, IsTime, IsPlace, IsEntry, IsMemoryWord, IsCount}
 use Rattle.report_rows.specs.Rows.{word_row, number_row, bytes_row, entry_row, core_row, memory_row, count_row}
-use Rattle.report_rows.specs.Reading.{behind_name, fixed_of, number_from, number_row_of, sets_row_of, policy_row_of, turns_row_of, bytes_row_of, entry_row_of, end_row_of, upper_of, registers_row_of, memory_row_of, count_row_of}
+use Rattle.report_rows.specs.Reading.{behind_name, fixed_of, number_from, number_row_of, sets_row_of, policy_row_of, turns_row_of, bytes_row_of, entry_row_of, entry_access_of, entry_words_of, end_row_of, end_numbers_of, two_words_at, four_words_at, eight_words_of, registers_row_of, memory_row_of, count_row_of}
 use Rattle.report_rows.proofs.ValueLaws.{policy_field, turns_field, kind_field, end_field, from_field, sets_field, place_field, place_from_field, some_word_field}
 
 -- ---- rows that say one thing, or a name and a value
@@ -85,7 +86,7 @@ EntryFields cores bytes z =
     Unit {0} × (Unit {0} × ((z.core ≤ cores - 1) × (IsTime z.nth × ((z.kind ≢ Fetch) × (IsPlace bytes z.addr × (IsWord z.old × (IfSome z.new IsWord × Unit {0})))))))
 
 entry_fields : (cores bytes : ℕ) → cores ≤ 8 → bytes ≤ 2 ^ 32 → IsRow (EntryFields cores bytes) entry_row (entry_row_of cores bytes)
-unfolding entry_row_of make_entry
+unfolding entry_row_of entry_access_of entry_words_of make_entry
 entry_fields cores bytes few fits =
     then_field _ _ _ (λ z. tt) _ _ _ _ (exactly_field (codes "A")) (λ title _.
     then_field _ _ _ (λ z. z.core) _ _ _ _ (number_field (cores - 1) (omega arith)) (λ core _.
@@ -140,7 +141,7 @@ EndFields budget z =
     Unit {0} × (Unit {0} × (Unit {0} × (Unit {0} × ((z.cycles ≤ budget) × (IsTime z.retired × (IsWord z.pc × (IsWord z.dpc × Unit {0})))))))
 
 end_fields : (budget core : ℕ) → budget < 2 ^ 64 → IsRow (EndFields budget) (end_parts core) (end_row_of budget core)
-unfolding end_row_of make_end
+unfolding end_row_of end_numbers_of make_end
 end_fields budget core small =
     then_field _ _ _ (λ z. tt) _ _ _ _ (exactly_field (codes "C")) (λ title _.
     then_field _ _ _ (λ z. tt) _ _ _ _ (exactly_field (decimal core)) (λ key _.
@@ -183,6 +184,50 @@ numbers_are : (z : List ℕ) (a b c d e f g h : ℕ) → length z ≡ 8 → numb
     → number_at z 4 ≡ e → number_at z 5 ≡ f → number_at z 6 ≡ g → number_at z 7 ≡ h → make_eight a b c d e f g h ≡ z
 numbers_are z a b c d e f g h long p q r s t u v w = let is = make_eight_is z long in cc
 
+-- one step and then another, in other groups
+then_then : {A B C : Type 0} (first : Option A) (f : A → Option B) (g : B → Option C) → ((first >>= f) >>= g) ≡ (first >>= λ a. f a >>= g)
+then_then None f g = refl
+then_then (Some a) f g = refl
+
+then_same : {A B : Type 0} (first : Option A) (f g : A → Option B) → ((a : A) → f a ≡ g a) → (first >>= f) ≡ (first >>= g)
+then_same None f g same = refl
+then_same (Some a) f g same = same a
+
+two_then : {X : Type 0} (row : Row) (next : List ℕ × Row → Option X)
+    → (two_words_at row >>= next) ≡ (field_at word_of row >>= λ a. field_at word_of a.1 >>= λ b. next (a.0 ∷ b.0 ∷ [], b.1))
+unfolding two_words_at
+two_then row next =
+    then_then (field_at word_of row) _ next
+    ∙ then_same (field_at word_of row) _ _ (λ a. then_then (field_at word_of a.1) _ next)
+
+four_then : {X : Type 0} (row : Row) (next : List ℕ × Row → Option X)
+    → (four_words_at row >>= next) ≡ (field_at word_of row >>= λ a. field_at word_of a.1 >>= λ b. field_at word_of b.1 >>= λ c. field_at word_of c.1 >>= λ d.
+    next (a.0 ∷ b.0 ∷ c.0 ∷ d.0 ∷ [], d.1))
+unfolding four_words_at
+four_then row next =
+    then_then (two_words_at row) _ next
+    ∙ (then_same (two_words_at row) _ _ (λ lower. then_then (two_words_at lower.1) _ next ∙ two_then lower.1 (λ upper. next (lower.0 ++ upper.0, upper.1)))
+    ∙ two_then row _)
+
+-- eight words, one after the other
+words_from : Row → Option (List ℕ)
+words_from row = do
+  a ← field_at word_of row
+  b ← field_at word_of a.1
+  c ← field_at word_of b.1
+  d ← field_at word_of c.1
+  e ← field_at word_of d.1
+  f ← field_at word_of e.1
+  g ← field_at word_of f.1
+  h ← field_at word_of g.1
+  ended (a.0 ∷ b.0 ∷ c.0 ∷ d.0 ∷ e.0 ∷ f.0 ∷ g.0 ∷ h.0 ∷ []) h.1
+
+eight_words_are : (row : Row) → eight_words_of row ≡ words_from row
+unfolding eight_words_of words_from
+eight_words_are row =
+    then_same (four_words_at row) _ _ (λ lower. four_then lower.1 (λ upper. ended (lower.0 ++ upper.0) upper.1))
+    ∙ four_then row _
+
 abbrev RegistersFields : List ℕ → Type 0
 RegistersFields z =
     (length z ≡ 8) × (Unit {0} × (Unit {0} × (Unit {0} × (IsWord (number_at z 0) × (IsWord (number_at z 1) × (IsWord (number_at z 2) × (IsWord (number_at z 3)
@@ -191,8 +236,16 @@ RegistersFields z =
 abbrev registers_parts : ℕ → ℕ → List ℕ → Row
 registers_parts core first regs = codes "R" ∷ decimal core ∷ decimal first ∷ map hex8 regs
 
-registers_fields : (core first : ℕ) → IsRow RegistersFields (λ z. registers_parts core first (eight_of z)) (registers_row_of core first)
-unfolding registers_row_of upper_of make_eight
+-- eight registers, word by word
+registers_from : ℕ → ℕ → Row → Option (List ℕ)
+registers_from core first row = do
+  title ← field_at (exactly (codes "R")) row
+  key ← field_at (exactly (decimal core)) title.1
+  place ← field_at (exactly (decimal first)) key.1
+  words_from place.1
+
+registers_fields : (core first : ℕ) → IsRow RegistersFields (λ z. registers_parts core first (eight_of z)) (registers_from core first)
+unfolding registers_from words_from make_eight
 registers_fields core first =
     then_field _ _ _ (λ z. tt) _ _ _ _ (exactly_field (codes "R")) (λ title _.
     then_field _ _ _ (λ z. tt) _ _ _ _ (exactly_field (decimal core)) (λ key _.
@@ -209,6 +262,22 @@ registers_fields core first =
     (λ z k. numbers_are z a b c d e f g h k.1.1.1.1.1.1.1.1.1.1.1 k.1.1.1.1.1.1.1.0 k.1.1.1.1.1.1.0 k.1.1.1.1.1.0 k.1.1.1.1.0 k.1.1.1.0 k.1.1.0 k.1.0 k.0)
     (refl, (refl, (refl, (refl, (refl, (refl, (refl, (refl, (refl, (refl, (refl, refl))))))))))))))))))))))
 
+-- the registers are read word by word
+registers_are : (core first : ℕ) (row : Row) → registers_row_of core first row ≡ registers_from core first row
+unfolding registers_row_of registers_from
+registers_are core first row =
+    then_same (field_at (exactly (codes "R")) row) _ _ (λ title.
+    then_same (field_at (exactly (decimal core)) title.1) _ _ (λ key.
+    then_same (field_at (exactly (decimal first)) key.1) _ _ (λ place. eight_words_are place.1)))
+
+-- a row that is read by other words
+row_read : {X : Type 0} (Fits : X → Type 0) (line : X → Row) (one one' : Row → Option X)
+    → ((row : Row) → one' row ≡ one row) → IsRow Fits line one → IsRow Fits line one'
+row_read Fits line one one' same law = record {
+  found = λ row x e. law.found row x (sym (same row) ∙ e);
+  again = λ x fits. same (line x) ∙ law.again x fits;
+}
+
 -- a row whose values are spelled in other words where they fit
 row_spelled : {X : Type 0} (Fits : X → Type 0) (line line' : X → Row) (one : Row → Option X)
     → ((x : X) → Fits x → line x ≡ line' x) → IsRow Fits line one → IsRow Fits line' one
@@ -220,12 +289,13 @@ row_spelled Fits line line' one same law = record {
 pub registers_law : (core first : ℕ)
     → IsRow (λ regs. (length regs ≡ 8) × AllByRecursion IsWord regs) (λ regs. codes "R" ∷ decimal core ∷ decimal first ∷ map hex8 regs) (registers_row_of core first)
 registers_law core first =
-    row_spelled (λ regs. (length regs ≡ 8) × AllByRecursion IsWord regs) (λ z. registers_parts core first (eight_of z)) (registers_parts core first) (registers_row_of core first)
+    row_read (λ regs. (length regs ≡ 8) × AllByRecursion IsWord regs) (registers_parts core first) (registers_from core first) (registers_row_of core first) (registers_are core first)
+    (row_spelled (λ regs. (length regs ≡ 8) × AllByRecursion IsWord regs) (λ z. registers_parts core first (eight_of z)) (registers_parts core first) (registers_from core first)
     (λ z h. ap (registers_parts core first) (sym (eight_is z h.0)))
-    (row_as RegistersFields (λ regs. (length regs ≡ 8) × AllByRecursion IsWord regs) (λ z. registers_parts core first (eight_of z)) (λ z. registers_parts core first (eight_of z)) (registers_row_of core first)
+    (row_as RegistersFields (λ regs. (length regs ≡ 8) × AllByRecursion IsWord regs) (λ z. registers_parts core first (eight_of z)) (λ z. registers_parts core first (eight_of z)) (registers_from core first)
     (λ z h. (h.0, subst (AllByRecursion IsWord) (sym (eight_is z h.0)) h.1.1.1.1))
     (λ z h. (h.0, (tt, (tt, (tt, subst (AllByRecursion IsWord) (eight_is z h.0) h.1)))))
-    (λ z. refl) (registers_fields core first))
+    (λ z. refl) (registers_fields core first)))
 
 -- ---- a memory word
 

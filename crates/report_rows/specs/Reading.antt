@@ -111,19 +111,38 @@ is_place bytes addr = addr % 4 == 0 && nat_lt addr bytes
 unfoldable pub place_of : ℕ → List ℕ → Option ℕ
 place_of bytes text = word_of text >>= λ addr. if is_place bytes addr then Some addr else None
 
+-- the words of an access, behind its core, its number, its kind and its address
+unfoldable pub entry_words_of : ℕ → ℕ → Kind → ℕ → Row → Option Entry
+entry_words_of core nth kind addr row = do
+  old ← field_at word_of row
+  new ← field_at optional_word_of old.1
+  ended (record { core = core; nth = nth; kind = kind; addr = addr; old = old.0; new = new.0 }) new.1
+
+-- the kind, the address and the words of an access, behind its core and its number
+unfoldable pub entry_access_of : ℕ → ℕ → ℕ → Row → Option Entry
+entry_access_of bytes core nth row = do
+  kind ← field_at kind_of row
+  addr ← field_at (place_of bytes) kind.1
+  entry_words_of core nth kind.0 addr.0 addr.1
+
 -- an access of one of so many cores, at a word within so many bytes
 unfoldable pub entry_row_of : ℕ → ℕ → Row → Option Entry
 entry_row_of cores bytes row = do
   title ← field_at (exactly (codes "A")) row
   core ← field_at (number_of (cores - 1)) title.1
   nth ← field_at (number_of 100002) core.1
-  kind ← field_at kind_of nth.1
-  addr ← field_at (place_of bytes) kind.1
-  old ← field_at word_of addr.1
-  new ← field_at optional_word_of old.1
-  ended (record { core = core.0; nth = nth.0; kind = kind.0; addr = addr.0; old = old.0; new = new.0 }) new.1
+  entry_access_of bytes core.0 nth.0 nth.1
 
 -- ---- ends of cores
+
+-- the cycles, the instructions and the counters of a core, behind how it ended
+unfoldable pub end_numbers_of : ℕ → End → Row → Option EndRow
+end_numbers_of budget end row = do
+  cycles ← field_at (number_of budget) row
+  retired ← field_at (number_of 100002) cycles.1
+  pc ← field_at word_of retired.1
+  dpc ← field_at word_of pc.1
+  ended (record { end = end; cycles = cycles.0; retired = retired.0; pc = pc.0; dpc = dpc.0 }) dpc.1
 
 -- how a core ended within its budget, without its registers
 unfoldable pub end_row_of : ℕ → ℕ → Row → Option EndRow
@@ -131,20 +150,28 @@ end_row_of budget core row = do
   title ← field_at (exactly (codes "C")) row
   key ← field_at (exactly (decimal core)) title.1
   end ← field_at end_of key.1
-  cycles ← field_at (number_of budget) end.1
-  retired ← field_at (number_of 100002) cycles.1
-  pc ← field_at word_of retired.1
-  dpc ← field_at word_of pc.1
-  ended (record { end = end.0; cycles = cycles.0; retired = retired.0; pc = pc.0; dpc = dpc.0 }) dpc.1
+  end_numbers_of budget end.0 end.1
 
--- the last four of eight registers, behind the first four
-unfoldable pub upper_of : List ℕ → Row → Option (List ℕ)
-upper_of lower row = do
+-- the next two words
+unfoldable pub two_words_at : Row → Option (List ℕ × Row)
+two_words_at row = do
   a ← field_at word_of row
   b ← field_at word_of a.1
-  c ← field_at word_of b.1
-  d ← field_at word_of c.1
-  ended (lower ++ a.0 ∷ b.0 ∷ c.0 ∷ d.0 ∷ []) d.1
+  Some (a.0 ∷ b.0 ∷ [], b.1)
+
+-- the next four words
+unfoldable pub four_words_at : Row → Option (List ℕ × Row)
+four_words_at row = do
+  lower ← two_words_at row
+  upper ← two_words_at lower.1
+  Some (lower.0 ++ upper.0, upper.1)
+
+-- eight words, and nothing behind them
+unfoldable pub eight_words_of : Row → Option (List ℕ)
+eight_words_of row = do
+  lower ← four_words_at row
+  upper ← four_words_at lower.1
+  ended (lower.0 ++ upper.0) upper.1
 
 -- eight registers of a core, from the first
 unfoldable pub registers_row_of : ℕ → ℕ → Row → Option (List ℕ)
@@ -152,11 +179,7 @@ registers_row_of core first row = do
   title ← field_at (exactly (codes "R")) row
   key ← field_at (exactly (decimal core)) title.1
   place ← field_at (exactly (decimal first)) key.1
-  a ← field_at word_of place.1
-  b ← field_at word_of a.1
-  c ← field_at word_of b.1
-  d ← field_at word_of c.1
-  upper_of (a.0 ∷ b.0 ∷ c.0 ∷ d.0 ∷ []) d.1
+  eight_words_of place.1
 
 -- ---- memory words
 

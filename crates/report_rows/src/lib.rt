@@ -5,8 +5,6 @@ mod fields;
 mod names;
 mod read;
 mod spell;
-#[cfg(test)]
-mod tests;
 
 pub use names::{end_name, kind_name, letter_name, stop_name};
 pub use read::{
@@ -25,7 +23,7 @@ pub struct MemoryWord {
 }
 
 /// The counts of a report, in the order of their rows.
-#[derive(Clone, Copy, Debug)]
+#[derive(Clone, Copy)]
 pub struct Counts {
     pub values: [u64; 13],
 }

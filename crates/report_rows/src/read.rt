@@ -1,8 +1,9 @@
 //! What a row of a report says, read from its text.
-ghost use Rattle.std.specs.Prelude.{◌≡◌, ◌+◌, ◌<◌, ◌≤◌, [], ◌∷◌, length, codes, IfSome, Some, None};
+ghost use Rattle.std.specs.Prelude.{◌≡◌, ◌+◌, ◌<◌, ◌≤◌, [], ◌∷◌, ℕ, List, Option, length, codes, IfSome, Some, None};
+ghost use Rattle.std.specs.Fn.{FnReturnsAt};
 ghost use Rattle.std.specs.Option.{option_copied};
-ghost use Rattle.row_reader.specs.Fields.{parts_of, parts_left};
-ghost use Rattle.report_rows.specs.Reading.{fixed_of, number_row_of, sets_row_of, policy_row_of, turns_row_of, bytes_row_of, entry_row_of, end_row_of, upper_of, registers_row_of, memory_row_of, count_row_of};
+ghost use Rattle.row_reader.specs.Fields.{Finds, parts_of, parts_left};
+ghost use Rattle.report_rows.specs.Reading.{fixed_of, behind_name, number_row_of, sets_row_of, policy_row_of, turns_row_of, bytes_row_of, entry_row_of, entry_access_of, entry_words_of, end_row_of, end_numbers_of, two_words_at, four_words_at, eight_words_of, registers_row_of, memory_row_of, count_row_of};
 
 use crate::MemoryWord;
 use crate::fields::{
@@ -11,11 +12,12 @@ use crate::fields::{
 };
 use access_log::Entry;
 use kmp_base::{Policy, Turns};
+use mips_isa::Kind;
 use row_reader::{Parts, bytes, ended, field, name, number, optional_word, word};
 use timetable::End;
 
 /// How a core ended, without its registers.
-#[derive(Clone, Copy, Debug, PartialEq, Eq)]
+#[derive(Clone, Copy)]
 pub struct EndRow {
     pub end: End,
     pub cycles: u32,
@@ -43,6 +45,17 @@ pub fn last_row(row: &[u8]) -> Option<()>
     ended((), rest)
 }
 
+/// The value behind a name that `read` gives of a row's second and last part.
+fn behind_name<T: Copy, F: Fn(&[u8]) -> Option<T>>(row: &[u8], title: &[u8], read: F) -> Option<T>
+    requires { F.IsAlwaysCallable read }
+    ensures read { (one : List ℕ → Option T) → ((text : List ℕ) (r : Option T) → FnReturnsAt F.Fn read text r → r ≡ one text) → result ≡ behind_name one title.now (parts_of row.now) }
+    ensures from { IfSome result (λ value. (text : List ℕ) × FnReturnsAt F.Fn read text (Some value)) }
+{
+    let (_, rest) = name(Some(row), title)?;
+    let (value, rest) = field(rest, read)?;
+    ended(value, rest)
+}
+
 /// A number behind a name.
 #[tactic(auto, unfolding(crate::specs::Reading::number_row_of))]
 pub fn number_row(row: &[u8], title: &[u8], least: u64, most: u64) -> Option<u64>
@@ -50,9 +63,7 @@ pub fn number_row(row: &[u8], title: &[u8], least: u64, most: u64) -> Option<u64
     ensures within { IfSome result (λ n. n ≤ most) }
     ensures some { IfSome result (λ n. least ≤ n) }
 {
-    let (_, rest) = name(Some(row), title)?;
-    let (n, rest) = field(rest, |text| number_from(text, least, most))?;
-    ended(n, rest)
+    behind_name(row, title, |text| number_from(text, least, most))
 }
 
 /// The number of sets, a power of two.
@@ -61,9 +72,7 @@ pub fn sets_row(row: &[u8]) -> Option<u64>
     ensures read { result ≡ sets_row_of (parts_of row.now) }
     ensures within { IfSome result (λ n. n ≤ 256) }
 {
-    let (_, rest) = name(Some(row), b"sets")?;
-    let (n, rest) = field(rest, sets_of)?;
-    ended(n, rest)
+    behind_name(row, b"sets", sets_of)
 }
 
 /// Which waiting cache the bus is granted to.
@@ -71,9 +80,7 @@ pub fn sets_row(row: &[u8]) -> Option<u64>
 pub fn policy_row(row: &[u8]) -> Option<Policy>
     ensures read { result ≡ policy_row_of (parts_of row.now) }
 {
-    let (_, rest) = name(Some(row), b"arbitration")?;
-    let (policy, rest) = field(rest, policy_of)?;
-    ended(policy, rest)
+    behind_name(row, b"arbitration", policy_of)
 }
 
 /// Whose cycle comes next.
@@ -81,9 +88,7 @@ pub fn policy_row(row: &[u8]) -> Option<Policy>
 pub fn turns_row(row: &[u8]) -> Option<Turns>
     ensures read { result ≡ turns_row_of (parts_of row.now) }
 {
-    let (_, rest) = name(Some(row), b"turns")?;
-    let (turns, rest) = field(rest, turns_of)?;
-    ended(turns, rest)
+    behind_name(row, b"turns", turns_of)
 }
 
 /// Bytes of the image, as many as there is room for.
@@ -99,6 +104,34 @@ pub fn bytes_row(row: &[u8], into: &mut [u8]) -> Option<()>
     ended((), rest)
 }
 
+/// The words of an access, behind its core, its number, its kind and its address.
+#[tactic(auto, unfolding(crate::specs::Reading::entry_words_of))]
+fn entry_words(rest: Parts, core: u32, nth: u32, kind: Kind, addr: u32) -> Option<Entry>
+    ensures { result ≡ entry_words_of core nth kind addr (parts_left (option_copied rest.entry)) }
+{
+    let (old, rest) = word(rest)?;
+    let (new, rest) = optional_word(rest)?;
+    let entry = Entry {
+        core,
+        nth,
+        kind,
+        addr,
+        old,
+        new,
+    };
+    ended(entry, rest)
+}
+
+/// The kind, the address and the words of an access, behind its core and its number.
+#[tactic(auto, unfolding(crate::specs::Reading::entry_access_of))]
+fn entry_access(rest: Parts, bytes: u32, core: u32, nth: u32) -> Option<Entry>
+    ensures { result ≡ entry_access_of bytes core nth (parts_left (option_copied rest.entry)) }
+{
+    let (kind, rest) = field(rest, kind_of)?;
+    let (addr, rest) = field(rest, |text| place_of(text, bytes))?;
+    entry_words(rest, core, nth, kind, addr)
+}
+
 /// An access of one of so many cores, at a word within so many bytes.
 #[tactic(auto, unfolding(crate::specs::Reading::entry_row_of))]
 pub fn entry_row(row: &[u8], cores: u32, bytes: u32) -> Option<Entry>
@@ -108,29 +141,14 @@ pub fn entry_row(row: &[u8], cores: u32, bytes: u32) -> Option<Entry>
     let (_, rest) = name(Some(row), b"A")?;
     let (core, rest) = number(rest, u64::from(cores - 1))?;
     let (nth, rest) = number(rest, 100002)?;
-    let (kind, rest) = field(rest, kind_of)?;
-    let (addr, rest) = field(rest, |text| place_of(text, bytes))?;
-    let (old, rest) = word(rest)?;
-    let (new, rest) = optional_word(rest)?;
-    let entry = Entry {
-        core: core as u32,
-        nth: nth as u32,
-        kind,
-        addr,
-        old,
-        new,
-    };
-    ended(entry, rest)
+    entry_access(rest, bytes, core as u32, nth as u32)
 }
 
-/// How a core ended within a budget.
-#[tactic(auto, unfolding(crate::specs::Reading::end_row_of))]
-pub fn end_row(row: &[u8], budget: u32, core: u32) -> Option<EndRow>
-    ensures read { result ≡ end_row_of budget core (parts_of row.now) }
+/// The cycles, the instructions and the counters of a core, behind how it ended.
+#[tactic(auto, unfolding(crate::specs::Reading::end_numbers_of))]
+fn end_numbers(rest: Parts, budget: u32, end: End) -> Option<EndRow>
+    ensures { result ≡ end_numbers_of budget end (parts_left (option_copied rest.entry)) }
 {
-    let (_, rest) = name(Some(row), b"C")?;
-    let (_, rest) = number_name(rest, u64::from(core))?;
-    let (end, rest) = field(rest, end_of)?;
     let (cycles, rest) = number(rest, u64::from(budget))?;
     let (retired, rest) = number(rest, 100002)?;
     let (pc, rest) = word(rest)?;
@@ -145,16 +163,45 @@ pub fn end_row(row: &[u8], budget: u32, core: u32) -> Option<EndRow>
     ended(told, rest)
 }
 
-/// The last four of eight registers, behind the first four.
-#[tactic(auto, unfolding(crate::specs::Reading::upper_of))]
-fn upper(lower: [u32; 4], rest: Parts) -> Option<[u32; 8]>
-    ensures { result ≡ upper_of lower (parts_left (option_copied rest.entry)) }
+/// How a core ended within a budget.
+#[tactic(auto, unfolding(crate::specs::Reading::end_row_of))]
+pub fn end_row(row: &[u8], budget: u32, core: u32) -> Option<EndRow>
+    ensures read { result ≡ end_row_of budget core (parts_of row.now) }
+{
+    let (_, rest) = name(Some(row), b"C")?;
+    let (_, rest) = number_name(rest, u64::from(core))?;
+    let (end, rest) = field(rest, end_of)?;
+    end_numbers(rest, budget, end)
+}
+
+/// The next two words, and what is left behind them.
+#[tactic(auto, unfolding(crate::specs::Reading::two_words_at))]
+fn two_words(rest: Parts) -> Option<([u32; 2], Parts)>
+    ensures { Finds (λ p. (p.0, parts_left (option_copied p.1))) result (two_words_at (parts_left (option_copied rest.entry))) }
 {
     let (a, rest) = word(rest)?;
     let (b, rest) = word(rest)?;
-    let (c, rest) = word(rest)?;
-    let (d, rest) = word(rest)?;
-    ended([lower[0], lower[1], lower[2], lower[3], a, b, c, d], rest)
+    Some(([a, b], rest))
+}
+
+/// The next four words, and what is left behind them.
+#[tactic(auto, unfolding(crate::specs::Reading::four_words_at))]
+fn four_words(rest: Parts) -> Option<([u32; 4], Parts)>
+    ensures { Finds (λ p. (p.0, parts_left (option_copied p.1))) result (four_words_at (parts_left (option_copied rest.entry))) }
+{
+    let ([a, b], rest) = two_words(rest)?;
+    let ([c, d], rest) = two_words(rest)?;
+    Some(([a, b, c, d], rest))
+}
+
+/// Eight words, and nothing behind them.
+#[tactic(auto, unfolding(crate::specs::Reading::eight_words_of))]
+fn eight_words(rest: Parts) -> Option<[u32; 8]>
+    ensures { result ≡ eight_words_of (parts_left (option_copied rest.entry)) }
+{
+    let ([a, b, c, d], rest) = four_words(rest)?;
+    let ([e, f, g, h], rest) = four_words(rest)?;
+    ended([a, b, c, d, e, f, g, h], rest)
 }
 
 /// Eight registers of a core, from the first.
@@ -165,11 +212,7 @@ pub fn registers_row(row: &[u8], core: u32, first: u32) -> Option<[u32; 8]>
     let (_, rest) = name(Some(row), b"R")?;
     let (_, rest) = number_name(rest, u64::from(core))?;
     let (_, rest) = number_name(rest, u64::from(first))?;
-    let (a, rest) = word(rest)?;
-    let (b, rest) = word(rest)?;
-    let (c, rest) = word(rest)?;
-    let (d, rest) = word(rest)?;
-    upper([a, b, c, d], rest)
+    eight_words(rest)
 }
 
 /// A memory word that isn't 0, at an address from `low` on within so many bytes.

@@ -4,8 +4,6 @@
 mod fields;
 mod rows;
 mod stuck;
-#[cfg(test)]
-mod tests;
 
 pub use fields::{
     bytes, bytes_of, ended, field, name, number, number_of, optional_word, optional_word_of, word,

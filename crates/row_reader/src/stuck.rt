@@ -1,7 +1,7 @@
 // Why a value was not read.
 
 /// Why a value was not read from a text.
-#[derive(Clone, Copy, Debug)]
+#[derive(Clone, Copy)]
 pub enum Stuck<'a> {
     /// Memory ran out.
     Memory,

@@ -1,7 +1,7 @@
 use Rattle.std.proofs.Common.{rules, arith, ◌≡◌}
 use Rattle.std.proofs.lemmas.Grind.{common_steps}
 use Rattle.core_run.specs.Serial.{IsEndOf}
-use Rattle.core_run.proofs.RunLemmas.{push-each}
+use Rattle.core_run.proofs.RunLemmas.{push-each, slice_get-next}
 use Rattle.core_run.proofs.serial.gather.Goals as goal
 
 pub loop-seat-preserved : goal.loop-seat-preserved
@@ -18,3 +18,8 @@ pub returns-clause-ends : goal.returns-clause-ends
 returns-clause-ends g c core ended got =
     let all : c.args.seats.items ≡ c.loop-seat.yielded = grind (arith, common_steps) in
     rw all (c.loop-seat.invariant.ends core ended got)
+
+pub end_of-requires : goal.end_of-requires
+end_of-requires g c = record {
+  over = c.requires.over _ c.in-Some.seat (slice_get-next _ _ _ _ _ c.loop-seat.invariant.rest c.in-Some.ensures.steps.0);
+}

@@ -1,0 +1,26 @@
+use Rattle.std.proofs.Common.{◌≡◌, refl, sym, ◌∙◌, arith}
+use Rattle.mem_port.specs.Memory.{IsFresh}
+use Rattle.machine_tests.proofs.cores.run.Goals as goal
+
+pub run_seats-requires-clause-fresh : goal.run_seats-requires-clause-fresh
+run_seats-requires-clause-fresh c =
+    let fresh = c.in_ok-memory.ensures.fresh _ _ _ _ c.in_ok-flat.ensures.fresh in
+    record {
+      lawful = fresh.lawful;
+      image_is = refl;
+      cores_are = refl;
+      caches_are = refl;
+      history = fresh.history;
+      ports = fresh.ports;
+      asks_left = λ q within. fresh.asks_left q (omega (arith, within, fresh.cores_are));
+    }
+
+pub run_seats-requires-clause-cores : goal.run_seats-requires-clause-cores
+run_seats-requires-clause-cores c =
+    let fresh = c.in_ok-memory.ensures.fresh _ _ _ _ c.in_ok-flat.ensures.fresh in
+    c.in_ok-seats.ensures.count ∙ sym fresh.cores_are
+
+pub run_seats-requires-clause-seats : goal.run_seats-requires-clause-seats
+run_seats-requires-clause-seats c core s got =
+    let fresh = c.in_ok-memory.ensures.fresh _ _ _ _ c.in_ok-flat.ensures.fresh in
+    rw (fresh.image_is, fresh.cores_are) (c.in_ok-seats.ensures.seats c.args.budget (omega (arith, c.requires.budget)) core s got)

@@ -1,8 +1,0 @@
-use Rattle.std.proofs.Common.{rules}
-use Rattle.queued_memory.proofs.ScriptLaws.{fits-withdraws}
-use Rattle.queued_memory.proofs.tests.Script.withdraw.Goals as goal
-
-pub returns : goal.returns
-returns g c = record {
-  fits = fits-withdraws _ _ _ c.requires.fits c.args.core _ _ (search rules) c.requires.core c.withdraw.ensures.lawful c.withdraw.ensures.withdraws;
-}

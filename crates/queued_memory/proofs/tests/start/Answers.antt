@@ -1,8 +1,0 @@
-use Rattle.std.proofs.Common.{arith}
-use Rattle.queued_memory.proofs.ScriptLaws.{fits-fresh}
-use Rattle.queued_memory.proofs.tests.start.Goals as goal
-
-pub returns : goal.returns
-returns g c = record {
-  fits = fits-fresh _ _ _ _ (c.in_ok-new.ensures.fresh _ _ _ _ c.in_ok-memory.ensures.fresh) (omega arith) (omega arith);
-}
