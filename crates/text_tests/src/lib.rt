@@ -1,0 +1,7 @@
+//! Tests of what no call of the program reaches, in the crates that read and write text.
+#![tactic(auto)]
+
+#[cfg(test)]
+mod rows;
+#[cfg(test)]
+mod streams;
