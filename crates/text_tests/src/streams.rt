@@ -74,6 +74,8 @@ fn an_interrupted_read_is_a_fault(rt: HostRuntime) {
     let fault = read_input(rt.alloc(), &mut source, 3).err();
     assert!(rt; fault == Some(InputFault::Failed));
     assert!(rt; source.faults == 1);
+    let mut source = StdSource::new(Interrupted { call: 1 });
+    assert!(rt; read_input(rt.alloc(), &mut source, 3).is_ok());
 }
 
 // Each piece is a write and a flush. The writer takes a single byte, and fails at the flush behind the second one.
