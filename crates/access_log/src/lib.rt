@@ -86,6 +86,3 @@ pub struct Core {
     /// The number of instructions that it has executed.
     pub executed: u32,
 }
-
-#[cfg(test)]
-mod tests;

@@ -3,25 +3,35 @@ ghost use Rattle.std.specs.Prelude.{◌≡◌};
 ghost use Rattle.image_file.specs.declared.fault.ImageFault.TheVariants.{Memory};
 
 use std::alloc::{AllocError, AllocFailed};
+use std::fmt;
 use thiserror::Error;
 
 /// What is wrong with a field.
-#[derive(Clone, Copy, Debug, PartialEq, Eq, Error)]
+#[derive(Clone, Copy, Debug, PartialEq, Eq)]
 pub enum ImageCause {
-    #[error("this is no image")]
     BadMagic,
-    #[error("the bytes end within a field")]
     Truncated,
-    #[error("there is no code, or an odd number of words")]
     OddCode,
-    #[error("the word spells no instruction")]
     BadWord,
-    #[error("the segment begins within the code or within the segment before")]
     Overlap,
-    #[error("the memory is too small or too large, or has no room")]
     DoesNotFit,
-    #[error("bytes are left")]
     Trailing,
+}
+
+impl fmt::Display for ImageCause {
+    fn fmt<W: fmt::Write>(&self, f: &mut fmt::Formatter<W>) -> fmt::Result {
+        f.write_str(match self {
+            ImageCause::BadMagic => "this is no image",
+            ImageCause::Truncated => "the bytes end within a field",
+            ImageCause::OddCode => "there is no code, or an odd number of words",
+            ImageCause::BadWord => "the word spells no instruction",
+            ImageCause::Overlap => {
+                "the segment begins within the code or within the segment before"
+            }
+            ImageCause::DoesNotFit => "the memory is too small or too large, or has no room",
+            ImageCause::Trailing => "bytes are left",
+        })
+    }
 }
 
 /// Why there is no image.

@@ -80,6 +80,3 @@ impl Model for Words {
 
     ghost view = { λ words. words.words.items };
 }
-
-#[cfg(test)]
-mod tests;

@@ -9,8 +9,6 @@ mod row;
 mod setup;
 mod standard;
 mod streams;
-#[cfg(test)]
-mod tests;
 mod transfer;
 
 pub use memory::{MemorySink, MemorySource};

@@ -43,6 +43,8 @@ pub struct MemorySink {
 }
 
 impl MemorySource {
+    ghost use Rattle.kmp_base.specs.Memory.{bytes_left, KeepsSource};
+
     /// A source that has all the bytes left.
     pub fn new(bytes: Vec<u8>, piece: usize, failing: Vec<u32>) -> Self
         requires { 0 < piece }
@@ -61,6 +63,23 @@ impl MemorySource {
             calls: 0,
             faults: 0,
         }
+    }
+
+    // Gives the next bytes, and says how many.
+    fn give(&mut self, buf: &mut [u8]) -> usize
+        ensures count { result ≡ min (min (length buf.old) self.old.piece) (length (bytes_left self.old)) }
+        ensures next { bytes_left self.old ≡ take result buf.new ++ bytes_left self.new }
+        ensures at { self.new.at ≡ self.old.at + result }
+        ensures beyond { drop result buf.new ≡ drop result buf.old }
+        ensures len { length buf.new ≡ length buf.old }
+        ensures counts { (self.new.calls ≡ self.old.calls) × (self.new.faults ≡ self.old.faults) }
+        ensures keeps { KeepsSource self.old self.new }
+    {
+        let left = self.bytes.len() - self.at;
+        let count = buf.len().min(self.piece).min(left);
+        buf[..count].copy_from_slice(&self.bytes[self.at..self.at + count]);
+        self.at += count;
+        count
     }
 }
 
@@ -125,11 +144,7 @@ impl Source for MemorySource {
             self.faults = self.faults.saturating_add(1);
             return Read::Failed;
         }
-        let left = self.bytes.len() - self.at;
-        let count = buf.len().min(self.piece).min(left);
-        buf[..count].copy_from_slice(&self.bytes[self.at..self.at + count]);
-        self.at += count;
-        Read::Got(count)
+        Read::Got(self.give(buf))
     }
 }
 

@@ -3,7 +3,7 @@ ghost use Rattle.std.specs.Prelude.{◌≡◌, ℕ, ◌<◌, ◌≤◌, ◌↔�
 ghost use Rattle.kmp_base.specs.Streams.{IfGot, OnReadFailed, IfTook, OnWriteFailed, Rose, Took, Appended};
 
 /// What a call of [`Source::read`] did.
-#[derive(Clone, Copy, Debug, PartialEq, Eq)]
+#[derive(Clone, Copy)]
 pub enum Read {
     /// So many bytes were given. At 0 the input is at its end.
     Got(usize),
@@ -12,7 +12,7 @@ pub enum Read {
 }
 
 /// What a call of [`Sink::write`] did.
-#[derive(Clone, Copy, Debug, PartialEq, Eq)]
+#[derive(Clone, Copy)]
 pub enum Wrote {
     /// So many bytes were taken, at least one.
     Took(usize),

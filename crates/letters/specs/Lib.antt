@@ -1,2 +1,3 @@
 pub mod Moesi
 pub mod Fold
+pub mod Worked

@@ -4,4 +4,8 @@
 #[cfg(test)]
 mod cores;
 #[cfg(test)]
+mod histories;
+#[cfg(test)]
+mod images;
+#[cfg(test)]
 mod memories;

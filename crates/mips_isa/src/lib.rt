@@ -7,12 +7,10 @@
 
 pub mod effects;
 pub mod steps;
-#[cfg(test)]
-mod tests;
 pub mod words;
 
 /// How a shift moves the bits of its register: to the left, to the right with zeros, to the right with the sign.
-#[derive(Clone, Copy, Debug, PartialEq, Eq)]
+#[derive(Clone, Copy)]
 pub enum ShiftOp {
     Sll,
     Srl,
@@ -20,7 +18,7 @@ pub enum ShiftOp {
 }
 
 /// What an instruction over three registers computes.
-#[derive(Clone, Copy, Debug, PartialEq, Eq)]
+#[derive(Clone, Copy)]
 pub enum AluOp {
     Add,
     Addu,
@@ -35,7 +33,7 @@ pub enum AluOp {
 }
 
 /// What an instruction over a register and an immediate computes.
-#[derive(Clone, Copy, Debug, PartialEq, Eq)]
+#[derive(Clone, Copy)]
 pub enum ImmOp {
     Addi,
     Addiu,
@@ -47,7 +45,7 @@ pub enum ImmOp {
 }
 
 /// How a branch compares its register with zero.
-#[derive(Clone, Copy, Debug, PartialEq, Eq)]
+#[derive(Clone, Copy)]
 pub enum ZeroOp {
     Bltz,
     Bgez,
@@ -58,7 +56,7 @@ pub enum ZeroOp {
 /// An instruction. It is proper where `rd`, `rs`, `rt` and `sa` are below 32 and `index` is below 2^26.
 ///
 /// An immediate is kept as its 16 bits. That of a branch, and the index of a jump, count instructions, not bytes.
-#[derive(Clone, Copy, Debug, PartialEq, Eq)]
+#[derive(Clone, Copy)]
 pub enum Instr {
     /// `sll`, `srl`, `sra`: shifts `rt` by `sa` bits into `rd`. The word 0, `nop`, is a shift of register 0.
     Shift {
@@ -181,7 +179,7 @@ pub struct CoreState {
 ///
 /// `expected` is the word that a compare and swap expects, and `value` what it or a store stores. Where the kind has no
 /// use for one of them, it is what register 0 holds.
-#[derive(Clone, Copy, Debug, PartialEq, Eq)]
+#[derive(Clone, Copy)]
 pub struct Access {
     pub kind: Kind,
     pub addr: u32,
@@ -190,7 +188,7 @@ pub struct Access {
 }
 
 /// What a core does at the instruction at `dpc`.
-#[derive(Clone, Copy, Debug, PartialEq, Eq)]
+#[derive(Clone, Copy)]
 pub enum Next {
     /// It goes no further.
     Stops(Stop),

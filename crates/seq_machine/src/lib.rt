@@ -32,6 +32,3 @@ pub struct Differs {
     /// What is due in that field.
     pub found: Found,
 }
-
-#[cfg(test)]
-mod tests;

@@ -2,4 +2,8 @@
 #![tactic(auto)]
 
 #[cfg(test)]
+mod rows;
+#[cfg(test)]
 mod sources;
+#[cfg(test)]
+mod streams;
