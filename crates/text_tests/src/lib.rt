@@ -1,0 +1,5 @@
+//! Tests of what no call of the program reaches, in the crates that read and write text.
+#![tactic(auto)]
+
+#[cfg(test)]
+mod reports;
