@@ -1,9 +1,7 @@
 //! What was asked for, from the header of a report.
-ghost use Rattle.std.specs.Prelude.{◌≡◌, ◌<◌, ◌≤◌, [], ◌∷◌, length, codes, IfOk};
+ghost use Rattle.std.specs.Prelude.{◌≡◌, ◌<◌, ◌≤◌, length, IfOk};
 ghost use Rattle.row_reader.specs.Rows.{rows_of};
-ghost use Rattle.row_reader.specs.Fields.{parts_of};
 ghost use Rattle.row_reader.specs.Gives.{Gives};
-ghost use Rattle.report_rows.specs.Reading.{fixed_of};
 ghost use Rattle.report_text.specs.Reading.{caches_at, header_at};
 
 use crate::read_rows::{first_row, fixed_at, number_at};
