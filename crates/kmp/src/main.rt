@@ -3,11 +3,7 @@
 #![tactic(auto)]
 
 mod refused;
-#[cfg(test)]
-mod replay_tests;
 mod status;
-#[cfg(test)]
-mod tests;
 mod tool;
 mod verdict;
 

@@ -7,7 +7,7 @@ ghost use Rattle.kmp.specs.Status.{code_of, status_of};
 use report_text::Report;
 use timetable::CoreEnd;
 
-#[derive(Clone, Copy, Debug, PartialEq, Eq)]
+#[derive(Clone, Copy)]
 pub enum Status {
     /// Every core ended at a `halt`.
     Done,

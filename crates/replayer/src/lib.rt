@@ -29,7 +29,7 @@ use seq_machine::Machine;
 use std::alloc::Global;
 
 /// The first field of a report that differs from what is due.
-#[derive(Clone, Copy, Debug, PartialEq, Eq)]
+#[derive(Clone, Copy)]
 pub struct Difference {
     /// The number of its row, from 1.
     pub line: u32,
@@ -41,7 +41,7 @@ pub struct Difference {
 }
 
 /// What a check answers.
-#[derive(Clone, Copy, Debug, PartialEq, Eq)]
+#[derive(Clone, Copy)]
 pub enum Verdict {
     /// The report is right.
     Agrees,
@@ -82,6 +82,3 @@ pub fn check(alloc: Global, report: &Report) -> Result<Verdict, NoMemory>
         Some(difference) => Ok(Verdict::Differs(difference)),
     }
 }
-
-#[cfg(test)]
-mod tests;

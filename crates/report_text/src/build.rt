@@ -3,7 +3,7 @@ ghost use Rattle.std.specs.Prelude.{◌≡◌, ◌*◌, ◌^◌, ◌<◌, ◌≤
 ghost use Rattle.kmp_base.specs.Limits.{IsWithinLimits};
 ghost use Rattle.access_log.specs.Items.{entries, transactions};
 ghost use Rattle.report_rows.specs.Ends.{end_value};
-ghost use Rattle.report_text.specs.Counts.{is_load, is_store, is_compare_and_swap, is_swap, at_entry, counts_of};
+ghost use Rattle.report_text.specs.Counts.{is_of_kind, is_swap, at_entry, counts_of};
 ghost use Rattle.report_text.specs.Report.{words_past, report_of};
 
 use crate::{NoMemory, Report};
@@ -33,43 +33,22 @@ fn words_past(alloc: Global, code: usize, memory: &[u32]) -> Result<Vec<MemoryWo
     Ok(words)
 }
 
-/// How many loads there are.
-#[tactic(auto, using(crate::proofs::CountLemmas::count_by_at_entry))]
-fn loads(items: &[Item]) -> u64
-    ensures { result ≡ count_by is_load (entries items.now) }
+/// Whether an item is an access of a kind.
+fn is_of_kind(item: &Item, kind: Kind) -> bool
+    ensures { result ≡ at_entry (is_of_kind kind) item.now }
 {
-    items
-        .iter()
-        .filter(|item| matches!(item, Item::Done(Entry { kind: Kind::Lw, .. })))
-        .count() as u64
+    match item {
+        Item::Done(entry) => entry.kind == kind,
+        Item::Bus(_) => false,
+    }
 }
 
-/// How many stores there are.
+/// How many accesses of a kind there are.
 #[tactic(auto, using(crate::proofs::CountLemmas::count_by_at_entry))]
-fn stores(items: &[Item]) -> u64
-    ensures { result ≡ count_by is_store (entries items.now) }
+fn accesses(items: &[Item], kind: Kind) -> u64
+    ensures { result ≡ count_by (is_of_kind kind) (entries items.now) }
 {
-    items
-        .iter()
-        .filter(|item| matches!(item, Item::Done(Entry { kind: Kind::Sw, .. })))
-        .count() as u64
-}
-
-/// How many compare-and-swaps there are.
-#[tactic(auto, using(crate::proofs::CountLemmas::count_by_at_entry))]
-fn compare_and_swaps(items: &[Item]) -> u64
-    ensures { result ≡ count_by is_compare_and_swap (entries items.now) }
-{
-    items
-        .iter()
-        .filter(|item| matches!(
-            item,
-            Item::Done(Entry {
-                kind: Kind::Cas,
-                ..
-            })
-        ))
-        .count() as u64
+    items.iter().filter(|item| is_of_kind(item, kind)).count() as u64
 }
 
 /// Whether it is a compare-and-swap that stored.
@@ -110,9 +89,9 @@ pub fn counts_of(cores: &[CoreEnd], items: &[Item]) -> Counts
 {
     let mut values = [0; 13];
     values[0] = retired(cores);
-    values[1] = loads(items);
-    values[2] = stores(items);
-    values[3] = compare_and_swaps(items);
+    values[1] = accesses(items, Kind::Lw);
+    values[2] = accesses(items, Kind::Sw);
+    values[3] = accesses(items, Kind::Cas);
     values[4] = swaps(items);
     Counts { values }
 }

@@ -44,9 +44,7 @@ fn look_at_items(items: &[Item])
 
 fn look_at_registers(regs: &[u32])
     ensures { All IsWord regs.now }
-{
-    for _value in regs {}
-}
+{}
 
 fn look_at_state(state: &CoreState)
     ensures { IsState state.now }
@@ -74,9 +72,7 @@ fn look_at_words(words: &[MemoryWord])
 
 fn look_at_counts(counts: &[u64])
     ensures { All IsCount counts.now }
-{
-    for _count in counts {}
-}
+{}
 
 /// What the types of a report's numbers say of them.
 fn look_at_numbers(report: &Report)

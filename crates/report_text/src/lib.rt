@@ -18,8 +18,3 @@ pub use read::{ReportFault, read_report};
 pub use report::Report;
 pub use report_rows::{Counts, MemoryWord};
 pub use std::alloc::AllocError as NoMemory;
-
-#[cfg(test)]
-mod read_tests;
-#[cfg(test)]
-mod tests;

@@ -40,7 +40,7 @@ fn read(alloc: Global, text: &[u8]) -> Result<Report, Stuck<'_>>
 }
 
 /// Why a text wasn't read.
-#[derive(Clone, Copy, Debug, PartialEq, Eq, Error)]
+#[derive(Clone, Copy, Debug, Error)]
 pub enum ReportFault {
     #[error("no memory")]
     Memory,

@@ -1,18 +1,16 @@
 //! What was asked for, from the header of a report.
-ghost use Rattle.std.specs.Prelude.{◌≡◌, ◌<◌, ◌≤◌, [], ◌∷◌, length, codes, IfOk};
+ghost use Rattle.std.specs.Prelude.{◌≡◌, ◌<◌, ◌≤◌, length, IfOk};
 ghost use Rattle.row_reader.specs.Rows.{rows_of};
-ghost use Rattle.row_reader.specs.Fields.{parts_of};
 ghost use Rattle.row_reader.specs.Gives.{Gives};
-ghost use Rattle.report_rows.specs.Reading.{fixed_of};
 ghost use Rattle.report_text.specs.Reading.{caches_at, header_at};
 
-use crate::read_rows::first_row;
+use crate::read_rows::{first_row, fixed_at, number_at};
 use kmp_base::{MachineKind, Policy, Setup, Turns};
-use report_rows::{fixed_row, number_row, policy_row, sets_row, turns_row};
+use report_rows::{policy_row, sets_row, turns_row};
 use row_reader::Stuck;
 
 /// The seed and the caches, and the setup with them.
-#[tactic(auto, unfolding(report_rows::specs::Reading::number_row_of, report_rows::specs::Reading::sets_row_of, crate::specs::Reading::caches_at))]
+#[tactic(auto, unfolding(report_rows::specs::Reading::sets_row_of, crate::specs::Reading::caches_at))]
 fn caches<'a>(
     text: &'a [u8],
     cores: u32,
@@ -24,9 +22,9 @@ fn caches<'a>(
     ensures cores { IfOk result (λ x. x.0.cores ≡ cores) }
     ensures shorter { IfOk result (λ x. length x.1.now < length text.now) }
 {
-    let (seed, rest) = first_row(text, |row| number_row(row, b"seed", 0, 4294967295))?;
+    let (seed, rest) = number_at(text, b"seed", 0, 4294967295)?;
     let (sets, rest) = first_row(rest, |row| sets_row(row))?;
-    let (ways, rest) = first_row(rest, |row| number_row(row, b"ways", 1, 8))?;
+    let (ways, rest) = number_at(rest, b"ways", 1, 8)?;
     let setup = Setup {
         machine: MachineKind::Plain,
         cores,
@@ -40,25 +38,18 @@ fn caches<'a>(
     Ok((setup, rest))
 }
 
-/// The row with which a report begins.
-fn title_row(row: &[u8]) -> Option<()>
-    ensures { result ≡ fixed_of (codes "kmp-report" ∷ codes "1" ∷ []) (parts_of row.now) }
-{
-    fixed_row(row, b"kmp-report", b"1")
-}
-
 /// The setup that a header tells.
-#[tactic(auto, unfolding(report_rows::specs::Reading::fixed_of, report_rows::specs::Reading::number_row_of, report_rows::specs::Reading::policy_row_of, report_rows::specs::Reading::turns_row_of, crate::specs::Reading::header_at))]
+#[tactic(auto, unfolding(report_rows::specs::Reading::policy_row_of, report_rows::specs::Reading::turns_row_of, crate::specs::Reading::header_at))]
 pub(crate) fn header(text: &[u8]) -> Result<(Setup, &[u8]), Stuck<'_>>
     ensures found { Gives (λ x. (x.0, rows_of x.1.now)) result (header_at (rows_of text.now)) }
     ensures some { IfOk result (λ x. 0 < x.0.cores) }
     ensures few { IfOk result (λ x. x.0.cores ≤ 8) }
     ensures shorter { IfOk result (λ x. length x.1.now < length text.now) }
 {
-    let (_, rest) = first_row(text, |row| title_row(row))?;
-    let (_, rest) = first_row(rest, |row| fixed_row(row, b"machine", b"plain"))?;
-    let (cores, rest) = first_row(rest, |row| number_row(row, b"cores", 1, 8))?;
-    let (budget, rest) = first_row(rest, |row| number_row(row, b"budget", 1, 100000))?;
+    let (_, rest) = fixed_at(text, b"kmp-report", b"1")?;
+    let (_, rest) = fixed_at(rest, b"machine", b"plain")?;
+    let (cores, rest) = number_at(rest, b"cores", 1, 8)?;
+    let (budget, rest) = number_at(rest, b"budget", 1, 100000)?;
     let (policy, rest) = first_row(rest, |row| policy_row(row))?;
     let (turns, rest) = first_row(rest, |row| turns_row(row))?;
     caches(rest, cores as u32, budget as u32, policy, turns)

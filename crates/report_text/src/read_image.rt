@@ -9,10 +9,10 @@ ghost use Rattle.report_text.specs.Reading.{full_rows_at, opening_at, image_row_
 
 use crate::NoMemory;
 use crate::read_header::header;
-use crate::read_rows::first_row;
+use crate::read_rows::{first_row, number_at};
 use image_file::{Image, ImageFault, read_image};
 use kmp_base::Setup;
-use report_rows::{bytes_row, number_row};
+use report_rows::bytes_row;
 use row_reader::{Stuck, cut_row};
 use std::alloc::Global;
 use std::marker::Model;
@@ -60,7 +60,7 @@ fn full_rows<'a>(alloc: Global, text: &'a [u8], rows: u32) -> Result<(Vec<u8>, &
     let mut bytes = Vec::new(alloc);
     let mut rest = text;
     for _ in 0..rows {
-        let (row, behind) = first_row(rest, |row| full_row(row))?;
+        let (row, behind) = first_row(rest, full_row)?;
         let Ok(()) = bytes.extend_from_slice(&row) else {
             return Err(Stuck::Memory);
         };
@@ -70,7 +70,7 @@ fn full_rows<'a>(alloc: Global, text: &'a [u8], rows: u32) -> Result<(Vec<u8>, &
 }
 
 /// The header, and the image but its last row.
-#[tactic(auto, unfolding(report_rows::specs::Reading::number_row_of, crate::specs::Reading::opening_at))]
+#[tactic(auto, unfolding(crate::specs::Reading::opening_at))]
 pub(crate) fn read_opening(alloc: Global, text: &[u8]) -> Result<(Opening, &[u8]), Stuck<'_>>
     ensures found { Gives (λ x. (x.0, rows_of x.1.now)) result (opening_at (rows_of text.now)) }
     ensures some_cores { IfOk result (λ x. 0 < x.0.setup.cores) }
@@ -81,7 +81,7 @@ pub(crate) fn read_opening(alloc: Global, text: &[u8]) -> Result<(Opening, &[u8]
     ensures shorter { IfOk result (λ x. length x.1.now ≤ length text.now) }
 {
     let (setup, rest) = header(text)?;
-    let (size, rest) = first_row(rest, |row| number_row(row, b"image", 1, 4294967295))?;
+    let (size, rest) = number_at(rest, b"image", 1, 4294967295)?;
     let size = size as u32;
     let (front, rest) = full_rows(alloc, rest, (size - 1) / 32)?;
     Ok((Opening { setup, size, front }, rest))

@@ -7,13 +7,13 @@ ghost use Rattle.row_reader.specs.Gives.{Gives};
 ghost use Rattle.report_rows.specs.Ends.{end_value};
 ghost use Rattle.report_text.specs.Reading.{entries_at, end_at, ends_at, words_at, count_names, counts_at, outcome_at};
 
-use crate::read_rows::first_row;
+use crate::read_rows::{first_row, registers_at};
 use crate::{Counts, MemoryWord, NoMemory, Report};
 use access_log::{Entry, History, Item};
 use image_file::Image;
 use kmp_base::Setup;
 use mips_isa::CoreState;
-use report_rows::{count_row, end_row, entry_row, last_row, memory_row, registers_row};
+use report_rows::{count_row, end_row, entry_row, last_row, memory_row};
 use row_reader::{Stuck, is_next};
 use std::alloc::Global;
 use timetable::{CoreEnd, Rows};
@@ -52,7 +52,7 @@ fn entries<'a>(
     let mut entries = Vec::new(alloc);
     let mut rest = text;
     'rows: while is_next(rest, b"A") {
-        let (entry, behind) = first_row(rest, |row| entry_row(row, cores, bytes))?;
+        let (entry, behind) = first_row(rest, move |row| entry_row(row, cores, bytes))?;
         let Ok(()) = entries.push(entry) else {
             return Err(Stuck::Memory);
         };
@@ -71,7 +71,7 @@ fn registers(a: [u32; 8], b: [u32; 8], c: [u32; 8], d: [u32; 8]) -> [u32; 32]
 }
 
 /// How a core ended.
-#[tactic(auto, unfolding(report_rows::specs::Reading::end_row_of, report_rows::specs::Reading::registers_row_of, crate::specs::Reading::end_at))]
+#[tactic(auto, unfolding(report_rows::specs::Reading::end_row_of, crate::specs::Reading::end_at))]
 fn end<'a>(
     alloc: Global,
     text: &'a [u8],
@@ -80,11 +80,11 @@ fn end<'a>(
 ) -> Result<(CoreEnd, &'a [u8]), Stuck<'a>>
     ensures { Gives (λ x. (end_value x.0, rows_of x.1.now)) result (end_at budget core (rows_of text.now)) }
 {
-    let (row, rest) = first_row(text, |row| end_row(row, budget, core))?;
-    let (a, rest) = first_row(rest, |row| registers_row(row, core, 0))?;
-    let (b, rest) = first_row(rest, |row| registers_row(row, core, 8))?;
-    let (c, rest) = first_row(rest, |row| registers_row(row, core, 16))?;
-    let (d, rest) = first_row(rest, |row| registers_row(row, core, 24))?;
+    let (row, rest) = first_row(text, move |row| end_row(row, budget, core))?;
+    let (a, rest) = registers_at(rest, core, 0)?;
+    let (b, rest) = registers_at(rest, core, 8)?;
+    let (c, rest) = registers_at(rest, core, 16)?;
+    let (d, rest) = registers_at(rest, core, 24)?;
     let ended = CoreEnd {
         end: row.end,
         cycles: row.cycles,
@@ -135,7 +135,7 @@ fn words<'a>(
     let mut rest = text;
     let mut from = low;
     'rows: while is_next(rest, b"W") {
-        let (word, behind) = first_row(rest, |row| memory_row(row, bytes, from))?;
+        let (word, behind) = first_row(rest, move |row| memory_row(row, bytes, from))?;
         let Ok(()) = words.push(word) else {
             return Err(Stuck::Memory);
         };
@@ -162,7 +162,7 @@ fn counts(text: &[u8]) -> Result<(Counts, &[u8]), Stuck<'_>>
     let mut rest = text;
     for i in 0..13 {
         let key = count_name(i);
-        let (count, behind) = first_row(rest, |row| count_row(row, key))?;
+        let (count, behind) = first_row(rest, move |row| count_row(row, key))?;
         values[i] = count;
         rest = behind;
     }

@@ -7,7 +7,7 @@ use Rattle.report_text.specs.Reading.{entries_at}
 use Rattle.report_text.proofs.read_outcome.entries.Given as goal
 
 abbrev pub ghost-first_row : goal.ghost-first_row
-ghost-first_row a = entry_row_of a.read.0.now a.read.1.now
+ghost-first_row a = entry_row_of a.read.0 a.read.1
 
 abbrev pub invariant-rows : goal.invariant-rows
 invariant-rows l = record {

@@ -6,7 +6,7 @@ use Rattle.report_text.specs.Reading.{words_at}
 use Rattle.report_text.proofs.read_outcome.words.Given as goal
 
 abbrev pub ghost-first_row : goal.ghost-first_row
-ghost-first_row a = memory_row_of a.read.0.now a.read.1.now
+ghost-first_row a = memory_row_of a.read.0 a.read.1
 
 abbrev pub invariant-rows : goal.invariant-rows
 invariant-rows l = with_front l.words.items (words_at l.bytes l.from (rows_of l.rest)) ≡ words_at l.bytes l.low (rows_of l.text)
