@@ -16,7 +16,8 @@ use std::test::Fail;
 const ADDR: u32 = 256;
 
 /// An image of `halt`, with a memory of 8,192 lines.
-const HALT: [u8; 24] = *b"KMP1\x00\x20\x00\x00\x02\x00\x00\x00\x00\x00\x00\x00\x0d\x00\x00\x00\x00\x00\x00\x00";
+const HALT: [u8; 24] =
+    *b"KMP1\x00\x20\x00\x00\x02\x00\x00\x00\x00\x00\x00\x00\x0d\x00\x00\x00\x00\x00\x00\x00";
 
 /// A memory of two cores, and what was made of their access ports: a request that was served counts
 /// as waiting until its answer is taken.
