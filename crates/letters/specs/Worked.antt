@@ -21,8 +21,9 @@ abbrev pub transaction : ℕ → ℕ → Bool → ℕ → Option ℕ → Option 
 transaction master line im ch di victim letter =
     Bus (record { master = master; line = line; im = im; ch = ch; di = di; victim = victim; letter = letter })
 
--- Core 0 stores; core 1 loads the word, which core 0 supplies and then owns; core 0 loads another line and drops the owned
--- one; core 1 upgrades its copy and stores; core 0 loads the word back; it upgrades its copy, and core 1 fetches it again.
+-- Core 0 stores; core 1 loads the word, which core 0 supplies and then owns; core 0 loads another line, drops the owned one
+-- and stores without a further transaction; it loads a third line and drops the second; core 1 upgrades its copy and
+-- stores; core 0 loads the word back; it upgrades its copy, and core 1 fetches it again.
 abbrev pub worked : List Item
 worked =
     transaction 1 32 true 0 None None letters.M
@@ -30,13 +31,15 @@ worked =
     ∷ transaction 3 32 false 2 (Some 1) None letters.S
     ∷ access 1 0 Lw 256 7 None
     ∷ transaction 1 33 false 0 None (Some 32) letters.E
-    ∷ access 0 1 Lw 264 0 None
+    ∷ access 0 1 Sw 264 0 (Some 5)
+    ∷ transaction 1 34 false 0 None (Some 33) letters.E
+    ∷ access 0 2 Lw 272 0 None
     ∷ transaction 3 32 true 0 None None letters.M
     ∷ access 1 1 Sw 256 7 (Some 9)
-    ∷ transaction 1 32 false 8 (Some 3) (Some 33) letters.S
-    ∷ access 0 2 Lw 256 9 None
+    ∷ transaction 1 32 false 8 (Some 3) (Some 34) letters.S
+    ∷ access 0 3 Lw 256 9 None
     ∷ transaction 1 32 true 8 (Some 3) None letters.M
-    ∷ access 0 3 Sw 256 9 (Some 11)
+    ∷ access 0 4 Sw 256 9 (Some 11)
     ∷ transaction 3 32 true 2 (Some 1) None letters.M
     ∷ access 1 2 Sw 256 11 (Some 12)
     ∷ []
