@@ -1,12 +1,16 @@
 //! Reports that no run of the program makes: one of no core, and one of a bus.
 use access_log::{History, Item, Letter, Transaction};
-use image_file::Image;
+use image_file::read_image;
 use kmp_base::{MachineKind, MemorySink, Policy, Setup, Turns};
 use report_text::{Counts, NoMemory, Report, print_report};
 use std::alloc::Global;
 use std::test::Fail;
 
-fn report(alloc: Global, history: History) -> Result<Report, NoMemory> {
+/// The image of `halt` in a memory of sixteen bytes.
+const HALT: [u8; 24] = *b"KMP1\x02\0\0\0\x02\0\0\0\0\0\0\0\x0d\0\0\0\0\0\0\0";
+
+fn report(alloc: Global, history: History) -> Result<Report, Fail> {
+    let image = read_image(alloc, &HALT)?;
     Ok(Report {
         setup: Setup {
             machine: MachineKind::Full,
@@ -18,11 +22,7 @@ fn report(alloc: Global, history: History) -> Result<Report, NoMemory> {
             sets: 1,
             ways: 1,
         },
-        image: Image {
-            memory_lines: 2,
-            code: Vec::new(alloc),
-            segments: Vec::new(alloc),
-        },
+        image,
         history,
         cores: Vec::new(alloc),
         words: Vec::new(alloc),
