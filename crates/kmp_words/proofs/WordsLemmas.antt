@@ -8,9 +8,7 @@ use Rattle.std.proofs.lemmas.Fmt.{decimal_is_IsNumeral}
 use Rattle.std.proofs.lemmas.Bool.Decides.{nat_tests}
 use Rattle.std.proofs.lemmas.Slice.Eq.{bytes_eq-Decides}
 use Rattle.std.proofs.lemmas.List.{drop_more}
-use Rattle.kmp_base.specs.declared.setup.MachineKind.{MachineKind}
 use Rattle.kmp_base.specs.declared.setup.MachineKind.TheVariants as machines
-use Rattle.kmp_base.specs.declared.setup.Turns.{Turns}
 use Rattle.kmp_base.specs.declared.setup.Turns.TheVariants as turns
 use Rattle.kmp_words.specs.declared.options.Command.{Command}
 use Rattle.kmp_words.specs.declared.options.Command.TheVariants as commands

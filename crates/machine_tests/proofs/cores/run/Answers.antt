@@ -1,5 +1,4 @@
-use Rattle.std.proofs.Common.{◌≡◌, refl, sym, ◌∙◌, arith}
-use Rattle.mem_port.specs.Memory.{IsFresh}
+use Rattle.std.proofs.Common.{refl, sym, ◌∙◌, arith}
 use Rattle.machine_tests.proofs.cores.run.Goals as goal
 
 pub run_seats-requires-clause-fresh : goal.run_seats-requires-clause-fresh
