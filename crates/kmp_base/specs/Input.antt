@@ -7,11 +7,13 @@ use Rattle.kmp_base.specs.declared.transfer.InputFault.TheVariants as faults
 
 -- Ok: all that was left was taken, no more than the limit.
 -- TooLong: one byte more than the limit was taken, and the rest is left.
--- Memory and Failed: some bytes were taken, at most one more than the limit.
+-- Failed: some bytes were taken, no more than the limit.
+-- Memory: some bytes were taken, at most one more than the limit.
 abbrev pub Reads : Option (List ℕ) → Option (List ℕ) → ℕ → Result (Vec ℕ Global) InputFault → Type 0
 Reads old new limit (Ok bytes) = Took old new bytes.items × IsSpent new × (length bytes.items ≤ limit)
 Reads old new limit (Err faults.TooLong) = (bytes : List ℕ) × Took old new bytes × (length bytes ≡ limit + 1)
-Reads old new limit (Err fault) = (bytes : List ℕ) × Took old new bytes × (length bytes ≤ limit + 1)
+Reads old new limit (Err faults.Failed) = (bytes : List ℕ) × Took old new bytes × (length bytes ≤ limit)
+Reads old new limit (Err faults.Memory) = (bytes : List ℕ) × Took old new bytes × (length bytes ≤ limit + 1)
 
 -- the count rose where the answer is Failed, and else it stands
 abbrev pub HasReadCause : ℕ → ℕ → Result (Vec ℕ Global) InputFault → Type 0

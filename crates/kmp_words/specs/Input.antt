@@ -1,5 +1,5 @@
 -- What an input means: an image, or a refusal.
-use Rattle.std.specs.Prelude.{◌≡◌, ◌⊎◌, ℕ, ◌<◌, nat_lt, if◌then◌else◌, List, length, Option, Result, Ok, Err}
+use Rattle.std.specs.Prelude.{◌≡◌, ◌⊎◌, ℕ, ◌+◌, ◌≤◌, nat_lt, if◌then◌else◌, List, length, Option, Result, Ok, Err}
 use Rattle.kmp_base.specs.Streams.{Took, IsSpent, Rose}
 use Rattle.image_file.specs.declared.fault.ImageFault.{ImageFault}
 use Rattle.image_file.specs.declared.fault.ImageFault.TheVariants as images
@@ -37,10 +37,10 @@ image_from inputs.Image bytes = or_refused (λ fault. Image fault.0 fault.1) (im
 unfoldable pub meaning_of : Input → List ℕ → Result ImageValue Refusal
 meaning_of input bytes = if nat_lt (limit_of input) (length bytes) then Err (TooLong (limit_of input)) else image_from input bytes
 
--- The input was read to its end, or to one byte past the limit.
+-- The input was read to its end, which is within the limit, or one byte more than the limit was taken.
 pub record ReadsAll (limit : ℕ) (old new : Option (List ℕ)) (bytes : List ℕ) : Type 0 where
   pub taken : Took old new bytes
-  pub all : IsSpent new ⊎ (limit < length bytes)
+  pub all : (IsSpent new × (length bytes ≤ limit)) ⊎ (length bytes ≡ limit + 1)
 
 -- An input with this meaning was read without a fault.
 pub record ReadsMeaning {S : Type 0} (left : S → Option (List ℕ)) (faults : S → ℕ) (old new : S) (input : Input) (meaning : Result ImageValue Refusal) : Type 0 where
