@@ -12,7 +12,7 @@ use Rattle.mips_isa.specs.Kinds.{part}
 use Rattle.access_log.specs.declared.Core.{Core}
 use Rattle.access_log.specs.declared.Entry.{Entry}
 use Rattle.access_log.specs.Memory.{word_at, made, due, has_found, after, memory_after, is_same}
-use Rattle.access_log.specs.Replay.{FlatMachine, memory_bytes, next_in, caught_up, caught_up_in, core_at, finished, entered_by, entered, entered_all, with_core, moved, ended, started, starting, replay, own, own_by, own_step, own_steps}
+use Rattle.access_log.specs.Replay.{FlatMachine, memory_bytes, next_in, caught_up, caught_up_in, caught_up_for, finished, entered_by, entered, entered_all, with_core, moved, ended, started, starting, replay, own, own_by, own_step, own_steps}
 use Rattle.access_log.specs.Interleaving.{RunsAlone, Interleaves}
 use Rattle.access_log.proofs.EntryLaws.{is_same-true, is_same-same}
 use Rattle.access_log.proofs.ItemLaws.{length-after}
@@ -57,7 +57,7 @@ record Step (machine : FlatMachine) (entry : Entry) (new : FlatMachine) : Type 0
 step_entered : (machine : FlatMachine) (entry : Entry) (new : FlatMachine) → entered entry machine ≡ Some new → Step machine entry new
 unfolding entered own_step
 step_entered machine entry new h =
-    let there = and_then_parts (λ (core : Core). entered_by machine entry core (next_in machine core)) (core_at machine entry) new h in
+    let there = and_then_parts (λ (core : Core). entered_by machine entry core (next_in machine core)) (caught_up_for machine entry) new h in
     let before = and_then_parts (caught_up_in machine entry.nth) (slice_get machine.cores entry.core) there.0 there.1 in
     let by = by_entered machine entry there.0 (next_in machine there.0) new there.2 in
     record {

@@ -51,8 +51,8 @@ abbrev pub caught_up_in : FlatMachine → ℕ → Core → Option Core
 caught_up_in machine n core = caught_up machine.code (memory_bytes machine) n core
 
 -- The core of an entry, caught up to it.
-abbrev pub core_at : FlatMachine → Entry → Option Core
-core_at machine entry = option_and_then (caught_up_in machine entry.nth) (slice_get machine.cores entry.core)
+abbrev pub caught_up_for : FlatMachine → Entry → Option Core
+caught_up_for machine entry = option_and_then (caught_up_in machine entry.nth) (slice_get machine.cores entry.core)
 
 -- The machine after an entry of a core that has caught up to it: none where it isn't the entry that is due.
 abbrev pub entered_by : FlatMachine → Entry → Core → Next → Option FlatMachine
@@ -70,7 +70,7 @@ entered_by machine entry core (Goes state) = None
 -- The machine after an entry: its core catches up to it and makes it.
 unfoldable pub entered : Entry → FlatMachine → Option FlatMachine
 entered entry machine =
-    option_and_then (λ core. entered_by machine entry core (next_in machine core)) (core_at machine entry)
+    option_and_then (λ core. entered_by machine entry core (next_in machine core)) (caught_up_for machine entry)
 
 -- The machine after a list of entries, in order.
 unfoldable pub entered_all : List Entry → FlatMachine → Option FlatMachine

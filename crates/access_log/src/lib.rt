@@ -10,7 +10,7 @@ mod request;
 pub use field::{Field, Found};
 pub use history::History;
 pub use laws::{interleaving_is_replay, replay_is_interleaving};
-pub use memory::{due, store};
+pub use memory::{due, made, store};
 use mips_isa::{CoreState, Kind};
 pub use request::Request;
 pub use std::alloc::AllocError as NoMemory;

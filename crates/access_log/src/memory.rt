@@ -2,7 +2,7 @@
 //! address 4i.
 ghost use Rattle.std.specs.Prelude.{◌≡◌, ◌*◌, ◌%◌, ◌<◌, length};
 ghost use Rattle.mips_isa.specs.Kinds.{width};
-ghost use Rattle.access_log.specs.Memory.{new_part, due, after};
+ghost use Rattle.access_log.specs.Memory.{new_part, made, due, after};
 
 use crate::Entry;
 use mips_isa::{Access, Kind, effects};
@@ -18,6 +18,21 @@ fn new_part(access: &Access, old: u32) -> Option<u32>
     stored.then_some(access.value)
 }
 
+/// The entry of a core's access that found this part of memory, where `nth` are its executed
+/// instructions.
+pub fn made(core: u32, nth: u32, access: &Access, old: u32) -> Entry
+    ensures made { result ≡ made core nth access.now old }
+{
+    Entry {
+        core,
+        nth,
+        kind: access.kind,
+        addr: access.addr,
+        old,
+        new: new_part(access, old),
+    }
+}
+
 /// The entry that is due for an access of a core, whose executed instructions are `nth`. Memory
 /// isn't changed.
 #[tactic(auto, unfolding(crate::specs::Memory::due))]
@@ -27,15 +42,12 @@ pub fn due(memory: &[u32], core: u32, nth: u32, access: &Access) -> Entry
     ensures due { result ≡ due memory.now core nth access.now }
 {
     let word = memory[(access.addr / 4) as usize];
-    let old = effects::part(access.kind, access.addr, word);
-    Entry {
+    made(
         core,
         nth,
-        kind: access.kind,
-        addr: access.addr,
-        old,
-        new: new_part(access, old),
-    }
+        access,
+        effects::part(access.kind, access.addr, word),
+    )
 }
 
 /// Stores what an entry stored, if anything.

@@ -1,3 +1,4 @@
+pub mod Cycle
 pub mod Lanes
 pub mod PlainView
 pub mod Serial

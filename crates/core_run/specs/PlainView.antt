@@ -9,34 +9,54 @@ use Rattle.mem_port.specs.Loaded.{on_code}
 use Rattle.mem_port.specs.Engine.{EngineView, IsSound}
 use Rattle.mem_port.specs.Pace.{Pace}
 use Rattle.core_run.specs.declared.plain.Phase.{Phase}
-use Rattle.core_run.specs.declared.plain.Phase.TheVariants.{Begin, Access, Stopped, Drained}
+use Rattle.core_run.specs.declared.plain.Phase.TheVariants.{Begin, Access, Stopped, GivenUp, FoundDone}
 
 -- A word of code is wanted where an instruction begins that stands on the code.
 abbrev pub wanted_fetch : Phase → ImageValue → CoreState → Option ℕ
 wanted_fetch Begin image state = if on_code image state.dpc then Some state.dpc else None
 wanted_fetch (Access r) image state = None
 wanted_fetch Stopped image state = None
-wanted_fetch Drained image state = None
+wanted_fetch GivenUp image state = None
+wanted_fetch FoundDone image state = None
 
 -- An answer is wanted once the word of an instruction with an access came.
 abbrev pub wanted_access : Phase → Option Request
 wanted_access Begin = None
 wanted_access (Access r) = Some r
 wanted_access Stopped = None
-wanted_access Drained = None
+wanted_access GivenUp = None
+wanted_access FoundDone = None
 
 abbrev pub is_live : Phase → Bool
 is_live Begin = true
 is_live (Access r) = true
 is_live Stopped = false
-is_live Drained = false
+is_live GivenUp = false
+is_live FoundDone = false
+
+-- Whether the budget ended while it waited.
+abbrev pub is_drained : Phase → Bool
+is_drained Begin = false
+is_drained (Access r) = false
+is_drained Stopped = false
+is_drained GivenUp = true
+is_drained FoundDone = true
 
 -- The clocks of an instruction that has begun and isn't executed.
 abbrev pub under_way : Phase → ℕ
 under_way Begin = 0
 under_way (Access r) = 1
 under_way Stopped = 1
-under_way Drained = 0
+under_way GivenUp = 1
+under_way FoundDone = 0
+
+-- The second clock of an access that was found done: it isn't made.
+abbrev pub left_out : Phase → ℕ
+left_out Begin = 0
+left_out (Access r) = 0
+left_out Stopped = 0
+left_out GivenUp = 0
+left_out FoundDone = 1
 
 abbrev pub plain_view : ImageValue → ℕ → ℕ → CoreState → ℕ → Phase → ℕ → EngineView
 plain_view image core cores state executed phase clocks_left = record {
@@ -58,16 +78,21 @@ in_own_cycles earlier [] = []
 in_own_cycles earlier (entry ∷ entries) =
     record { entry = entry; cycle = entry.nth + earlier + 2 } ∷ in_own_cycles (earlier + 1) entries
 
--- Where its wants are met at once, it has used a clock for each instruction, a second one for each access, and those of
--- the one under way; and it made each access in its cycle.
-pub record IsUnstalled (pace : Pace) (e : EngineView) (phase : Phase) : Type 0 where
+-- Where no answer comes later than it could have, no want stays unmet.
+pub record IsPrompt (pace : Pace) : Type 0 where
+  pub unmet : pace.service.unmet ≡ 0
   pub fetch_left : pace.fetch_left ≤ 0
   pub access_left : pace.access_left ≤ 0
-  pub clocks : pace.clocks ≡ e.executed + length pace.accesses + under_way phase
-  pub cycles : pace.accesses ≡ in_own_cycles 0 (map (λ (stamp : Stamp). stamp.entry) pace.accesses)
-  pub sound : IsSound e
 
--- What it tells of its times; where its budget ended while it waited, nothing else.
-abbrev pub plain_timed : Pace → EngineView → Phase → Type 0
-plain_timed pace e Drained = pace.is_drained ≡ true
-plain_timed pace e phase = pace.bound ≡ 0 → IsUnstalled pace e phase
+-- What it tells of its times, at every pace.
+pub record IsPlainPace (pace : Pace) (e : EngineView) (phase : Phase) : Type 0 where
+  -- It has used a clock for each instruction, a second one for each access, one for what is under way, and those in which a
+  -- want stayed unmet.
+  pub clocks : pace.service.clocks + left_out phase ≡ e.executed + length pace.service.accesses + under_way phase + pace.service.unmet
+  pub words : pace.service.words ≤ e.executed + under_way phase
+  pub accesses : length pace.service.accesses ≤ e.executed
+  -- Where no want stayed unmet, it made each access in its cycle.
+  pub cycles : pace.service.unmet ≡ 0 → pace.service.accesses ≡ in_own_cycles 0 (map (λ (stamp : Stamp). stamp.entry) pace.service.accesses)
+  pub prompt : pace.bound ≡ Some 0 → IsPrompt pace
+  pub drained : pace.is_drained ≡ is_drained phase
+  pub sound : IsSound e

@@ -1,14 +1,14 @@
 -- Cores that have their cycles in turn.
-use Rattle.std.specs.Prelude.{◌≡◌, ℕ, ◌+◌, ◌<◌, ◌≤◌, ◌⊎◌, ◌==◌, if◌then◌else◌, Bool, true, false, Option, Some, None, List, ◌++◌, length, slice_get, map}
+use Rattle.std.specs.Prelude.{◌≡◌, ℕ, ◌+◌, ◌<◌, ◌≤◌, ◌⊎◌, ◌==◌, if◌then◌else◌, Bool, true, false, ◌&&◌, not, Option, Some, None, List, ◌++◌, length, slice_get, map}
 use Rattle.std.specs.List.{AllByRecursion}
 use Rattle.mips_isa.specs.declared.Stop.{Stop}
 use Rattle.image_file.specs.Value.{ImageValue, start_memory}
 use Rattle.access_log.specs.declared.Entry.{Entry}
 use Rattle.access_log.specs.declared.Item.{Item}
 use Rattle.access_log.specs.Items.{entries}
-use Rattle.access_log.specs.Replay.{replay}
+use Rattle.access_log.specs.Replay.{own, replay}
 use Rattle.access_log.specs.Stamps.{Stamp, own_stamps, IsRising}
-use Rattle.letters.specs.declared.Shape.{Shape}
+use Rattle.letters.specs.Caches.{Caches}
 use Rattle.letters.specs.Fold.{Follows}
 use Rattle.timetable.specs.declared.End.{End}
 use Rattle.timetable.specs.declared.End.TheVariants.{Stopped, Spent}
@@ -19,13 +19,14 @@ use Rattle.mem_port.specs.declared.port.Port.TheVariants.{Fetch, Access}
 use Rattle.mem_port.specs.declared.engine.Progress.{Progress}
 use Rattle.mem_port.specs.declared.engine.Progress.TheVariants as progress
 use Rattle.mem_port.specs.Loaded.{stop, code_lines}
-use Rattle.mem_port.specs.Memory.{MemoryView}
+use Rattle.mem_port.specs.Calls.{Call, Ask, Serve, Step, Take, Withdraw}
+use Rattle.mem_port.specs.Memory.{MemoryView, IsAtOnce, committed}
 use Rattle.mem_port.specs.Engine.{EngineView}
 use Rattle.mem_port.specs.Pace.{Pace}
 use Rattle.mem_port.specs.Side.{side_of}
 use Rattle.core_run.specs.declared.lane.Lane.{Lane}
 use Rattle.core_run.specs.declared.serial.Seat.{Seat}
-use Rattle.core_run.specs.Lanes.{IsCoupled, IsFinished, IsStarted, IsClosed, at_once}
+use Rattle.core_run.specs.Lanes.{RunsAlone, IsCoupled, IsFinished, IsStarted, IsClosed, bound_of}
 
 -- An end is the stop at which the core stands, within the budget, or comes after the whole budget.
 abbrev pub EndFits : End → ℕ → ℕ → Option Stop → Type 0
@@ -40,7 +41,8 @@ end_after progress.Running cycles budget = if cycles == budget then Some Spent e
 -- A core that runs on, after so many rounds: it has had as many cycles, and there are clocks and asks for the rest of the
 -- budget.
 pub record IsOn (rounds budget : ℕ) (m : MemoryView) (e : EngineView) (lane : Lane) (cycles : ℕ) : Type 0 where
-  pub coupled : IsCoupled None None e (side_of m lane.core) lane
+  pub coupled : IsCoupled e (side_of m lane.core) lane
+  pub runs : RunsAlone e (committed m lane.core)
   pub live : e.is_live ≡ true
   pub count : cycles ≡ rounds
   pub more : rounds < budget
@@ -51,6 +53,7 @@ pub record IsOn (rounds budget : ℕ) (m : MemoryView) (e : EngineView) (lane : 
 -- A core that has ended.
 pub record IsOver (budget : ℕ) (m : MemoryView) (e : EngineView) (lane : Lane) (end : End) (cycles : ℕ) : Type 0 where
   pub finished : IsFinished e (side_of m lane.core) lane.core
+  pub runs : RunsAlone e (committed m lane.core)
   pub fits : EndFits end budget cycles (stop e.image e.state)
 
 -- By its end, if there is one.
@@ -74,7 +77,7 @@ pub record IsStartSeat (image : ImageValue) (core cores budget : ℕ) (e : Engin
 
 -- What a run leaves of a memory with these caches or none: the sequential machine, stepped by the accesses in their order,
 -- comes to exactly these cores and this memory, and each core has ended.
-pub record IsRun (image : ImageValue) (cores budget : ℕ) (caches : Option Shape) (outcome : OutcomeValue) : Type 0 where
+pub record IsRun (image : ImageValue) (cores budget : ℕ) (caches : Option Caches) (outcome : OutcomeValue) : Type 0 where
   pub count : length outcome.cores ≡ cores
   pub within : AllByRecursion (λ entry. entry.core < cores) (entries outcome.items)
   pub words : length outcome.words ≡ length (start_memory image)
@@ -84,15 +87,18 @@ pub record IsRun (image : ImageValue) (cores budget : ℕ) (caches : Option Shap
   pub ends : (core : ℕ) (ended : CoreEnd) → slice_get outcome.cores core ≡ Some ended
       → EndFits ended.end budget ended.cycles (stop image ended.state)
 
+-- A step is made with this choice.
+abbrev pub HasChoice : ℕ → Call → Type 0
+HasChoice choice (Ask p r) = Unit {0}
+HasChoice choice (Serve p) = Unit {0}
+HasChoice choice (Step chosen result) = chosen ≡ choice
+HasChoice choice (Take p answer) = Unit {0}
+HasChoice choice (Withdraw p answer) = Unit {0}
+
 -- Whether a core that ended so could go on: where its budget is spent.
 abbrev pub goes_on : Option End → Bool
 goes_on (Some (Stopped why)) = false
 goes_on end = true
-
--- A seat whose core's wants are met at once: nothing stays open, and it is stopped only by a stop.
-pub record IsPunctual (e : EngineView) (lane : Lane) (end : Option End) : Type 0 where
-  pub closed : IsClosed lane
-  pub live : e.is_live ≡ goes_on end
 
 -- A turn of a core adds at most one access, its own.
 pub record AddsOwn (core : ℕ) (more : List Entry) (old new : List Item) : Type 0 where
@@ -110,14 +116,16 @@ pub record AreInTurns (rounds turn : ℕ) (items : List Item) (stamps : List Sta
   pub rising : IsRising stamps
   pub earlier : AllByRecursion (IsEarlier rounds turn) stamps
 
--- The engine of a core that ended so.
-pub record IsEngineOf (image : ImageValue) (core cores : ℕ) (ended : CoreEnd) (e : EngineView) : Type 0 where
+-- The engine of a core that ended so, which was served at this pace: it had a clock in each cycle of its core.
+pub record IsEngineOf (image : ImageValue) (core cores : ℕ) (bound : Option ℕ) (ended : CoreEnd) (pace : Pace) (e : EngineView) : Type 0 where
   pub image_is : e.image ≡ image
   pub core_is : e.core ≡ core
   pub cores_are : e.cores ≡ cores
   pub retired : e.executed ≡ ended.retired
   pub state : e.state ≡ ended.state
-  pub live : e.is_live ≡ goes_on (Some ended.end)
+  pub live : e.is_live ≡ (goes_on (Some ended.end) && not pace.is_drained)
+  pub clocks : pace.service.clocks ≡ ended.cycles
+  pub bound_is : pace.bound ≡ bound
 
 -- The end that a core's engine, with its rows, and its seat tell.
 pub record IsEndOf (e : EngineView) (rows : List TimeRow) (end : Option End) (cycles : ℕ) (ended : CoreEnd) : Type 0 where
@@ -137,13 +145,22 @@ abbrev pub AreFirst : {E : Type 0} → (E → EngineView) → ImageValue → ℕ
 AreFirst {E} view image cores budget seats = (core : ℕ) (s : Seat E) → slice_get seats core ≡ Some s
     → IsStartSeat image core cores budget (view s.engine) s.lane s.end s.cycles
 
--- The wants of each core were met at once, and its own accesses stand in their cycles among these.
-abbrev pub AreUnstalled : {E : Type 0} → (E → EngineView) → (Pace → E → Type 0) → List Stamp → List (Seat E) → Type 0
-AreUnstalled {E} view timed stamps seats = (core : ℕ) (s : Seat E) → slice_get seats core ≡ Some s
-    → IsPunctual (view s.engine) s.lane s.end × timed (at_once s.cycles (own_stamps stamps core)) s.engine
+-- Each core ended with an engine that left these rows and was served at its pace, and its accesses are those of the history.
+abbrev pub EndsServed : {E : Type 0} → (E → EngineView) → (E → List TimeRow) → (Pace → E → Type 0) → MemoryView → OutcomeValue → (ℕ → Pace) → Type 0
+EndsServed {E} view rows times m outcome paces = (core : ℕ) (ended : CoreEnd) → slice_get outcome.cores core ≡ Some ended
+    → (e : E) × (IsEngineOf m.image core m.cores (bound_of (side_of m core)) ended (paces core) (view e)
+    × ((ended.rows.rows ≡ rows e) × (times (paces core) e
+    × (map (λ (stamp : Stamp). stamp.entry) (paces core).service.accesses ≡ own (entries outcome.items) core))))
 
--- So it was until the end of each core, whose engine also left these rows.
-abbrev pub EndUnstalled : {E : Type 0} → (E → EngineView) → (E → List TimeRow) → (Pace → E → Type 0) → ImageValue → ℕ → List Stamp → List CoreEnd → Type 0
-EndUnstalled {E} view rows timed image cores stamps ends = (core : ℕ) (ended : CoreEnd) → slice_get ends core ≡ Some ended
-    → (e : E) × (IsEngineOf image core cores ended (view e)
-    × ((ended.rows.rows ≡ rows e) × timed (at_once ended.cycles (own_stamps stamps core)) e))
+-- Where each answer came as its request was served, no core's budget ended while it waited, and the accesses of the history are
+-- in turns, each in the cycle in which its core received it.
+pub record IsAtOnceRun (cores budget : ℕ) (outcome : OutcomeValue) (paces : ℕ → Pace) : Type 0 where
+  pub stamps : List Stamp
+  pub turns : AreInTurns budget 0 outcome.items stamps
+  pub received : (core : ℕ) → core < cores → (paces core).service.accesses ≡ own_stamps stamps core
+  pub waited : (core : ℕ) → core < cores → (paces core).is_drained ≡ false
+
+-- How the cores of a run on a memory were served.
+pub record IsServedRun {E : Type 0} (view : E → EngineView) (rows : E → List TimeRow) (times : Pace → E → Type 0) (m : MemoryView) (budget : ℕ) (outcome : OutcomeValue) (paces : ℕ → Pace) : Type 0 where
+  pub ends : EndsServed view rows times m outcome paces
+  pub at_once : IsAtOnce m → IsAtOnceRun m.cores budget outcome paces

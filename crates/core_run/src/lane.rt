@@ -1,18 +1,19 @@
 //! One cycle of a core, and its end.
-ghost use Rattle.std.specs.Prelude.{◌≡◌, ◌≤◌, ◌<◌, ◌+◌, ◌-◌, ◌++◌, ℕ, true, false, List, length, Option, Some, None, IsTrue, IsNone, IfNone};
+ghost use Rattle.std.specs.Prelude.{◌≡◌, ◌≤◌, ◌+◌, ◌++◌, ℕ, true, false, Option, Some, None, IsTrue};
 ghost use Rattle.access_log.specs.declared.request.Request.{Request};
-ghost use Rattle.access_log.specs.declared.Entry.{Entry};
-ghost use Rattle.access_log.specs.Stamps.{Stamp, stamped};
 ghost use Rattle.mem_port.specs.Engine.{KeepsEngine};
 ghost use Rattle.mem_port.specs.Pace.{executed_by};
 ghost use Rattle.mem_port.specs.declared.port.PortState.TheVariants.{Free};
+ghost use Rattle.mem_port.specs.declared.port.Withdrawal.{Withdrawal};
 ghost use Rattle.mem_port.specs.Ports.{core_of, MayAsk};
 ghost use Rattle.mem_port.specs.Side.{SideView, KeepsSide};
-ghost use Rattle.core_run.specs.Lanes.{IsCoupled, SideSends, HasAsks, UsesAsks, Progressed, IsHalfFinished, IsFinished, StopsWhereDead, WaitsLess, StillWaits, pace_of, IsClosed};
+ghost use Rattle.core_run.specs.declared.lane.Came.{Came};
+ghost use Rattle.core_run.specs.Cycle.{IsCycle, IsEnding};
+ghost use Rattle.core_run.specs.Lanes.{RunsAlone, IsCoupled, SideSends, HasAsks, Progressed, IsFinished, StopsWhereDead, IsClosed};
 
 use crate::CoreSide;
 use access_log::Request;
-use mem_port::{CoreEngine, Port, Progress, Withdrawal};
+use mem_port::{CoreEngine, Moved, Port, Progress, Withdrawal};
 
 /// Which requests of a core are open: served, and their answers not taken yet.
 #[derive(Clone, Copy)]
@@ -34,6 +35,15 @@ impl Lane {
             open_access: false,
         }
     }
+}
+
+/// What came in a cycle of a core: the answer to its access, its word of code, and whether the step
+/// that was made moved something.
+#[derive(Clone, Copy)]
+pub struct Came {
+    pub reply: Option<u32>,
+    pub fetched: Option<u32>,
+    pub step: Option<Moved>,
 }
 
 /// Asks a request and serves it.
@@ -202,25 +212,17 @@ pub fn cycle<E: CoreEngine, S: CoreSide>(
     choice: u32,
 ) -> Progress
     requires serves { S.serves side.old lane.old.core }
-    requires coupled { IsCoupled None None (E.view engine.old) (S.view side.old lane.old.core) lane.old }
+    requires coupled { IsCoupled (E.view engine.old) (S.view side.old lane.old.core) lane.old }
     requires live { (E.view engine.old).is_live ≡ true }
     requires clocks { 1 ≤ (E.view engine.old).clocks_left }
     requires asks { HasAsks (S.view side.old lane.old.core) lane.old }
-    ensures serves { S.serves side.new lane.new.core }
-    ensures coupled { IsCoupled None None (E.view engine.new) (S.view side.new lane.new.core) lane.new }
+    ensures serves { S.serves side.new lane.old.core }
+    ensures coupled { IsCoupled (E.view engine.new) (S.view side.new lane.old.core) lane.new }
+    ensures runs { RunsAlone (E.view engine.old) (S.view side.old lane.old.core).taken → RunsAlone (E.view engine.new) (S.view side.new lane.old.core).taken }
     ensures progressed { Progressed result (E.view engine.new) }
-    ensures core { lane.new.core ≡ lane.old.core }
-    ensures engine { KeepsEngine (E.view engine.old) (E.view engine.new) }
-    ensures clocks { (E.view engine.new).clocks_left + 1 ≡ (E.view engine.old).clocks_left }
     ensures kept { KeepsSide (S.view side.old lane.old.core) (S.view side.new lane.old.core) }
-    ensures asks { UsesAsks lane.old.core 1 1 (S.view side.old lane.old.core) (S.view side.new lane.old.core) }
-    ensures waits { WaitsLess 1 (S.view side.old lane.old.core) (S.view side.new lane.old.core) lane.old lane.new }
-    ensures timed { (clocks : ℕ) (stamps : List Stamp) → IsTrue (S.view side.old lane.old.core).tells_distances
-        → E.timed (pace_of (S.view side.old lane.old.core) lane.old clocks stamps) engine.old
-        → (more : List Entry) × ((length more ≤ 1)
-        × (((S.view side.new lane.old.core).taken ≡ (S.view side.old lane.old.core).taken ++ more)
-        × E.timed (pace_of (S.view side.new lane.old.core) lane.new (clocks + 1) (stamps ++ stamped (clocks + 1) more)) engine.new)) }
     ensures others { S.leaves_others lane.old.core side.old side.new }
+    ensures cycle { (came : Came) × IsCycle E.view E.timed S.view S.makes S.paid choice came result engine.old engine.new side.old side.new lane.old lane.new }
 {
     open_access(engine, side, lane);
     open_fetch(engine, side, lane);
@@ -281,18 +283,14 @@ fn finish_fetch<E: CoreEngine, S: CoreSide>(engine: &E, side: &mut S, lane: &mut
 /// an access that was done already is executed.
 pub fn finish<E: CoreEngine, S: CoreSide>(engine: &mut E, side: &mut S, lane: &mut Lane)
     requires serves { S.serves side.old lane.old.core }
-    requires coupled { IsCoupled None None (E.view engine.old) (S.view side.old lane.old.core) lane.old }
+    requires coupled { IsCoupled (E.view engine.old) (S.view side.old lane.old.core) lane.old }
     requires dead { StopsWhereDead (E.view engine.old) }
-    ensures serves { S.serves side.new lane.new.core }
-    ensures finished { IsFinished (E.view engine.new) (S.view side.new lane.new.core) lane.new.core }
-    ensures closed { IsClosed lane.new }
-    ensures still { lane.old.open_access ≡ false → engine.new ≡ engine.old }
-    ensures dead { (E.view engine.old).is_live ≡ false → lane.old.open_access ≡ false }
-    ensures core { lane.new.core ≡ lane.old.core }
-    ensures engine { KeepsEngine (E.view engine.old) (E.view engine.new) }
+    ensures serves { S.serves side.new lane.old.core }
+    ensures finished { IsFinished (E.view engine.new) (S.view side.new lane.old.core) lane.old.core }
+    ensures runs { RunsAlone (E.view engine.old) (S.view side.old lane.old.core).taken → RunsAlone (E.view engine.new) (S.view side.new lane.old.core).taken }
     ensures kept { KeepsSide (S.view side.old lane.old.core) (S.view side.new lane.old.core) }
-    ensures taken { lane.old.open_access ≡ false → (S.view side.new lane.old.core).taken ≡ (S.view side.old lane.old.core).taken }
     ensures others { S.leaves_others lane.old.core side.old side.new }
+    ensures ending { (access : Withdrawal) × ((fetch : Withdrawal) × IsEnding E.view E.timed S.view S.makes S.paid access fetch engine.old engine.new side.old side.new lane.old lane.new) }
 {
     finish_access(engine, side, lane);
     finish_fetch(engine, side, lane);

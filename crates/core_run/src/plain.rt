@@ -1,8 +1,9 @@
 //! An engine without a pipeline: it does one instruction after the other.
 ghost use Rattle.std.specs.Prelude.{◌≡◌, ◌<◌, ◌+◌, ◌^◌, []};
 ghost use Rattle.mem_port.specs.Loaded.{on_code, next_in, finish};
-ghost use Rattle.core_run.specs.Lanes.{IsStarted, at_once};
-ghost use Rattle.core_run.specs.PlainView.{plain_view, plain_timed, under_way};
+ghost use Rattle.core_run.specs.Lanes.{IsStarted};
+ghost use Rattle.mem_port.specs.Pace.{Pace, IsFirstPace};
+ghost use Rattle.core_run.specs.PlainView.{plain_view, IsPlainPace, under_way};
 
 use crate::TimedEngine;
 use access_log::Request;
@@ -21,8 +22,10 @@ pub enum Phase {
     Access(Request),
     /// It stopped.
     Stopped,
-    /// The budget ended while it waited.
-    Drained,
+    /// The budget ended while it waited, and its access wasn't done.
+    GivenUp,
+    /// The budget ended while it waited, and its access was done.
+    FoundDone,
 }
 
 /// An unpipelined core. An instruction takes one clock, and one with an access a second one; a stop
@@ -44,7 +47,7 @@ impl<'a> Plain<'a> {
     pub fn new(image: &'a Image, core: u32, cores: u32) -> Plain<'a>
         ensures starts { IsStarted image.now core cores (⟦<Plain<'static> as CoreEngine>⟧.view result) }
         ensures clocks { (⟦<Plain<'static> as CoreEngine>⟧.view result).clocks_left ≡ 4294967295 }
-        ensures timed { ⟦<Plain<'static> as CoreEngine>⟧.timed (at_once 0 []) result }
+        ensures timed { (pace : Pace) → IsFirstPace pace → ⟦<Plain<'static> as CoreEngine>⟧.timed pace result }
     {
         Plain {
             image,
@@ -84,19 +87,19 @@ fn finished(image: &Image, state: &CoreState, old: u32) -> CoreState
 impl CoreEngine for Plain<'_> {
     ghost view = { λ e. plain_view e.image.now e.core e.cores e.state e.executed e.phase e.clocks_left };
 
-    ghost timed = { λ pace e. plain_timed pace (plain_view e.image.now e.core e.cores e.state e.executed e.phase e.clocks_left) e.phase };
+    ghost timed = { λ pace e. IsPlainPace pace (plain_view e.image.now e.core e.cores e.state e.executed e.phase e.clocks_left) e.phase };
 
     fn want_fetch(&self) -> Option<u32> {
         match self.phase {
             Phase::Begin => is_on_code(self.image, self.state.dpc).then_some(self.state.dpc),
-            Phase::Access(_) | Phase::Stopped | Phase::Drained => None,
+            Phase::Access(_) | Phase::Stopped | Phase::GivenUp | Phase::FoundDone => None,
         }
     }
 
     fn want_access(&self) -> Option<Request> {
         match self.phase {
             Phase::Access(request) => Some(request),
-            Phase::Begin | Phase::Stopped | Phase::Drained => None,
+            Phase::Begin | Phase::Stopped | Phase::GivenUp | Phase::FoundDone => None,
         }
     }
 
@@ -134,15 +137,16 @@ impl CoreEngine for Plain<'_> {
                 self.phase = Phase::Begin;
                 Progress::Running
             }
-            Phase::Stopped | Phase::Drained => unreachable!(),
+            Phase::Stopped | Phase::GivenUp | Phase::FoundDone => unreachable!(),
         }
     }
 
     fn drain(&mut self, reply: Option<u32>) {
-        self.phase = Phase::Drained;
         let Some(old) = reply else {
+            self.phase = Phase::GivenUp;
             return;
         };
+        self.phase = Phase::FoundDone;
         self.state = finished(self.image, &self.state, old);
         self.executed += 1;
     }

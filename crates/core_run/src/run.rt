@@ -7,7 +7,7 @@ ghost use Rattle.kmp_base.specs.declared.setup.Turns.TheVariants as turns;
 ghost use Rattle.access_log.specs.Items.{entries};
 ghost use Rattle.timetable.specs.Right.{IsRight};
 ghost use Rattle.timetable.specs.Turns.{IsInTurns};
-ghost use Rattle.core_run.specs.Lanes.{at_once};
+ghost use Rattle.mem_port.specs.Pace.{Pace, IsFirstPace};
 ghost use Rattle.core_run.specs.Serial.{AreFirst};
 ghost use Rattle.core_run.specs.declared.plain.Plain.{Plain};
 ghost use Rattle.core_run.specs.declared.serial.Seat.{Seat};
@@ -29,7 +29,7 @@ pub fn plain_seats<'a>(
     ensures seats { IfOk result (λ seats. (budget : ℕ) → budget ≤ 4294967295
         → AreFirst ⟦<Plain<'static> as CoreEngine>⟧.view image.now cores budget seats.items) }
     ensures timed { IfOk result (λ seats. (core : ℕ) (s : Seat Plain) → slice_get seats.items core ≡ Some s
-        → ⟦<Plain<'static> as CoreEngine>⟧.timed (at_once 0 []) s.engine) }
+        → (pace : Pace) → IsFirstPace pace → ⟦<Plain<'static> as CoreEngine>⟧.timed pace s.engine) }
 {
     let mut seats = Vec::with_capacity(alloc, cores as usize)?;
     for core in 0..cores {

@@ -3,11 +3,14 @@ ghost use Rattle.std.specs.Prelude.{◌≡◌, ◌≤◌, ◌<◌, ◌+◌, ◌+
 ghost use Rattle.access_log.specs.declared.Entry.{Entry};
 ghost use Rattle.access_log.specs.Stamps.{Stamp, stamped, own_stamps};
 ghost use Rattle.timetable.specs.declared.CoreEnd.{CoreEnd};
-ghost use Rattle.mem_port.specs.Memory.{IsLawful, IsFresh, IsAtOnce, Keeps};
+ghost use Rattle.mem_port.specs.Memory.{IsLawful, IsFresh, IsAtOnce, Keeps, Settles};
 ghost use Rattle.mem_port.specs.Side.{LeavesOthers, ServesCore};
-ghost use Rattle.core_run.specs.Lanes.{IsClosed, at_once};
+ghost use Rattle.core_run.specs.Lanes.{IsClosed};
+ghost use Rattle.mem_port.specs.Calls.{Call, Lead};
+ghost use Rattle.mem_port.specs.Pace.{Pace, IsFirstPace};
+ghost use Rattle.std.specs.List.{AllByRecursion};
 ghost use Rattle.timetable.specs.declared.End.{End};
-ghost use Rattle.core_run.specs.Serial.{SeatAt, IsRun, IsPunctual, AddsOwn, AreInTurns, AreAt, AreFirst, AreUnstalled, EndUnstalled, IsEndOf, end_after};
+ghost use Rattle.core_run.specs.Serial.{SeatAt, IsRun, AddsOwn, AreInTurns, AreAt, AreFirst, HasChoice, IsServedRun, IsEndOf, end_after};
 ghost use Rattle.core_run.specs.declared.serial.Seat.{Seat};
 
 use crate::lane::{cycle, finish};
@@ -172,10 +175,10 @@ pub fn run_seats<E: TimedEngine, M: MemoryCore>(
     requires room { vec_len seats ≤ vec_capacity ends }
     requires empty { ends.items ≡ [] }
     ensures run { IsRun (M.view memory).image (M.view memory).cores budget (M.view memory).caches result }
-    ensures timed { IsAtOnce (M.view memory)
-        → ((core : ℕ) (s : Seat E) → slice_get seats.items core ≡ Some s → E.timed (at_once 0 []) s.engine)
-        → (stamps : List Stamp) × (AreInTurns budget 0 result.items stamps
-        × EndUnstalled E.view E.rows E.timed (M.view memory).image (M.view memory).cores stamps result.cores) }
+    ensures made { (last : M) × ((calls : List Call) × (Lead M.makes calls memory last
+        × (AllByRecursion (HasChoice 0) calls × Settles (M.view last) result.words result.items))) }
+    ensures served { ((core : ℕ) (s : Seat E) → slice_get seats.items core ≡ Some s → (pace : Pace) → IsFirstPace pace → E.timed pace s.engine)
+        → (paces : ℕ → Pace) × IsServedRun E.view E.rows E.timed (M.view memory) budget result paces }
 {
     play_all(&mut memory, &mut seats, budget);
     gather(alloc, seats, &mut ends);

@@ -4,6 +4,7 @@ ghost use Rattle.std.proofs.Common.{refl, ◌∙◌};
 ghost use Rattle.access_log.specs.declared.request.Request.{Request};
 ghost use Rattle.mem_port.specs.declared.port.PortState.TheVariants.{Free, Asked};
 ghost use Rattle.mem_port.specs.Ports.{core_of, MayAsk};
+ghost use Rattle.mem_port.specs.Calls.{Call, Ask, Serve, Step, Take, Withdraw};
 ghost use Rattle.mem_port.specs.Side.{SideView, Served, mark, Holds, SideAsks, SideServes, SideSteps, SideTakes, SideWithdraws, LeavesOthers, Paid, steps_in, ServesCore, side_of};
 ghost use Rattle.mem_port.proofs.SideLaws.{stays-view, goes_on-view, paid-twice};
 
@@ -22,6 +23,10 @@ pub trait CoreSide {
     /// What calls for a core leave of all others.
     ghost leaves_others: { ℕ → Self → Self → Type 0 };
 
+    /// That a call was made, with what it was given and what it answered, and led from one state to
+    /// another.
+    ghost makes: { Call → Self → Self → Type 0 };
+
     /// That so many steps that moved something were made for a core.
     ghost paid: { ℕ → ℕ → Self → Self → Type 0 };
 
@@ -32,6 +37,7 @@ pub trait CoreSide {
         requires left { 1 ≤ (view self.old (core_of port)).asks_left port }
         requires proper { MayAsk (view self.old (core_of port)).image port request }
         ensures serves { serves self.new (core_of port) }
+        ensures made { makes (Ask port request) self.old self.new }
         ensures asks { SideAsks port request (view self.old (core_of port)) (view self.new (core_of port)) }
         ensures others { leaves_others (core_of port) self.old self.new }
         ensures paid { paid (core_of port) 0 self.old self.new };
@@ -41,6 +47,7 @@ pub trait CoreSide {
         requires serves { serves self.old (core_of port) }
         requires asked { (r : Request) × ((view self.old (core_of port)).port port ≡ Asked r) }
         ensures serves { serves self.new (core_of port) }
+        ensures made { makes (Serve port) self.old self.new }
         ensures served { (r : Request) → (view self.old (core_of port)).port port ≡ Asked r → SideServes port r (view self.old (core_of port)) (view self.new (core_of port)) }
         ensures others { leaves_others (core_of port) self.old self.new }
         ensures paid { paid (core_of port) 0 self.old self.new };
@@ -49,6 +56,7 @@ pub trait CoreSide {
     fn step(&mut self, choice: u32) -> Moved
         requires serves { (core : ℕ) × serves self.old core }
         ensures serves { (core : ℕ) → serves self.old core → serves self.new core }
+        ensures made { makes (Step choice result) self.old self.new }
         ensures steps { (core : ℕ) → serves self.old core → SideSteps result core (view self.old core) (view self.new core) }
         ensures others { (core : ℕ) → serves self.old core → leaves_others core self.old self.new }
         ensures paid { (core : ℕ) → serves self.old core → paid core (steps_in result) self.old self.new };
@@ -58,6 +66,7 @@ pub trait CoreSide {
         requires serves { serves self.old (core_of port) }
         requires served { (r : Request) × (mark ((view self.old (core_of port)).port port) ≡ Served r) }
         ensures serves { serves self.new (core_of port) }
+        ensures made { makes (Take port result) self.old self.new }
         ensures takes { (r : Request) → mark ((view self.old (core_of port)).port port) ≡ Served r → SideTakes result port r (view self.old (core_of port)) (view self.new (core_of port)) }
         ensures others { leaves_others (core_of port) self.old self.new }
         ensures paid { paid (core_of port) 0 self.old self.new };
@@ -67,6 +76,7 @@ pub trait CoreSide {
         requires serves { serves self.old (core_of port) }
         requires opened { (r : Request) × Holds (mark ((view self.old (core_of port)).port port)) r }
         ensures serves { serves self.new (core_of port) }
+        ensures made { makes (Withdraw port result) self.old self.new }
         ensures withdraws { (r : Request) → Holds (mark ((view self.old (core_of port)).port port)) r → SideWithdraws result port r (view self.old (core_of port)) (view self.new (core_of port)) }
         ensures others { leaves_others (core_of port) self.old self.new }
         ensures paid { paid (core_of port) 0 self.old self.new };
@@ -87,6 +97,8 @@ impl<M: MemoryCore> CoreSide for &mut M {
     ghost view = { λ s core. side_of (M.view s.now) core };
 
     ghost leaves_others = { λ core s t. LeavesOthers core (M.view s.now) (M.view t.now) × (t.ghost_name ≡ s.ghost_name) };
+
+    ghost makes = { λ call s t. M.makes call s.now t.now × (t.ghost_name ≡ s.ghost_name) };
 
     ghost paid = { λ core steps s t. Paid core steps (M.view s.now) (M.view t.now) };
 

@@ -7,17 +7,17 @@ use Rattle.access_log.specs.declared.Transaction.{Transaction}
 use Rattle.access_log.specs.declared.Item.{Item}
 use Rattle.access_log.specs.declared.Item.TheVariants.{Done, Bus}
 use Rattle.access_log.specs.Items.{transactions}
-use Rattle.letters.specs.declared.Shape.{Shape}
-use Rattle.letters.specs.Moesi.{is_held, is_sole, is_dirty, is_hit, after_hit, after_finish, after_act}
+use Rattle.letters.specs.Moesi.{is_held, is_sole, is_dirty, is_hit, after_hit}
+use Rattle.letters.specs.Caches.{Caches}
 
 -- The letter of each line in each cache, and the lines in each set of each cache, in the order in which they were filled.
 -- Cache 2c has the instructions of core c, and cache 2c + 1 its data. Line k has the bytes from 8k on.
-pub record Letters : Type 0 where
+pub record LettersValue : Type 0 where
   pub letter : ℕ → ℕ → Letter
   pub filled : ℕ → ℕ → List ℕ
 
 -- At the start no cache holds a line.
-abbrev pub no_letters : Letters
+abbrev pub no_letters : LettersValue
 no_letters = record { letter = λ cache line. I; filled = λ cache set. [] }
 
 -- The data cache of an entry's core.
@@ -29,12 +29,12 @@ abbrev pub line_of : Entry → ℕ
 line_of entry = entry.addr / 8
 
 -- The letters after an entry: it is a hit in its core's data cache.
-abbrev pub letter_after_entry : Letters → Entry → ℕ → ℕ → Letter
+abbrev pub letter_after_entry : LettersValue → Entry → ℕ → ℕ → Letter
 letter_after_entry letters entry cache line =
     if (cache == cache_of entry) && (line == line_of entry)
     then after_hit (letters.letter cache line) (is_some entry.new) else letters.letter cache line
 
-abbrev pub after_entry : Letters → Entry → Letters
+abbrev pub after_entry : LettersValue → Entry → LettersValue
 after_entry letters entry = record { letter = letter_after_entry letters entry; filled = letters.filled }
 
 -- Whether a line is the one, where there is one.
@@ -42,33 +42,34 @@ abbrev pub is_that : Option ℕ → ℕ → Bool
 is_that None line = false
 is_that (Some that) line = line == that
 
--- The letters after a transaction: the master drops its victim and holds the line, and each other cache acts on it.
-abbrev pub letter_after_transaction : Letters → Transaction → ℕ → ℕ → Letter
-letter_after_transaction letters bus cache line =
+-- The letters after a transaction: the master drops its victim and holds the line, and each other cache acts on it by its own
+-- protocol.
+abbrev pub letter_after_transaction : Caches → LettersValue → Transaction → ℕ → ℕ → Letter
+letter_after_transaction caches letters bus cache line =
     if cache == bus.master
     then (if line == bus.line then bus.letter else (if is_that bus.victim line then I else letters.letter cache line))
-    else (if line == bus.line then after_act (letters.letter cache line) bus.im else letters.letter cache line)
+    else (if line == bus.line then (caches.protocol cache).after_act (letters.letter cache line) bus.im else letters.letter cache line)
 
 -- The lines of a set after a transaction: those that are held still, in their order, and behind them the line where it was filled.
-abbrev pub filled_after_transaction : Letters → Transaction → ℕ → List ℕ → List ℕ
+abbrev pub filled_after_transaction : LettersValue → Transaction → ℕ → List ℕ → List ℕ
 filled_after_transaction letters bus cache lines =
     if cache == bus.master
     then (if is_held (letters.letter cache bus.line) then lines
     else (filter (λ line. not (is_that bus.victim line)) lines ++ bus.line ∷ []))
     else (if bus.im then filter (λ line. not (line == bus.line)) lines else lines)
 
-abbrev pub after_transaction : ℕ → Letters → Transaction → Letters
-after_transaction sets letters bus = record {
-  letter = letter_after_transaction letters bus;
+abbrev pub after_transaction : Caches → LettersValue → Transaction → LettersValue
+after_transaction caches letters bus = record {
+  letter = letter_after_transaction caches letters bus;
   filled = λ cache set.
-      if set == bus.line % sets then filled_after_transaction letters bus cache (letters.filled cache set) else letters.filled cache set;
+      if set == bus.line % caches.sets then filled_after_transaction letters bus cache (letters.filled cache set) else letters.filled cache set;
 }
 
 -- The letters after a list of items.
-abbrev pub letters_after : ℕ → Letters → List Item → Letters
-letters_after sets letters [] = letters
-letters_after sets letters (Done entry ∷ items) = letters_after sets (after_entry letters entry) items
-letters_after sets letters (Bus bus ∷ items) = letters_after sets (after_transaction sets letters bus) items
+abbrev pub letters_after : Caches → LettersValue → List Item → LettersValue
+letters_after caches letters [] = letters
+letters_after caches letters (Done entry ∷ items) = letters_after caches (after_entry letters entry) items
+letters_after caches letters (Bus bus ∷ items) = letters_after caches (after_transaction caches letters bus) items
 
 -- The caches with numbers below n, other than the master, that hold a line: bit k of the sum stands for cache k.
 abbrev pub holders : (ℕ → ℕ → Letter) → ℕ → ℕ → ℕ → ℕ
@@ -91,7 +92,7 @@ suffices letter true = is_sole letter
 suffices letter false = is_held letter
 
 -- A transaction that the letters allow, for so many cores and lines of code.
-pub record IsAllowed (caches : Shape) (cores code_lines : ℕ) (letters : Letters) (bus : Transaction) : Type 0 where
+pub record IsAllowed (caches : Caches) (cores code_lines : ℕ) (letters : LettersValue) (bus : Transaction) : Type 0 where
   pub master : bus.master < 2 * cores
   -- The master needs it.
   pub lacks : suffices (letters.letter bus.master bus.line) bus.im ≡ false
@@ -101,19 +102,19 @@ pub record IsAllowed (caches : Shape) (cores code_lines : ℕ) (letters : Letter
   pub held_by : bus.ch ≡ holders letters.letter bus.master bus.line (2 * cores)
   pub supplier : IsSupplier letters.letter bus.master bus.line bus.di
   pub makes_room : bus.victim ≡ victim_of caches.ways (letters.letter bus.master bus.line) (letters.filled bus.master (bus.line % caches.sets))
-  pub becomes : bus.letter ≡ after_finish bus.im bus.ch
+  pub becomes : bus.letter ≡ (caches.protocol bus.master).after_finish bus.im bus.ch
 
 -- From these letters on, each entry is a hit in its core's data cache, and each transaction is allowed.
-abbrev pub FollowsFrom : Shape → ℕ → ℕ → Letters → List Item → Type 0
+abbrev pub FollowsFrom : Caches → ℕ → ℕ → LettersValue → List Item → Type 0
 FollowsFrom caches cores code_lines letters [] = Unit {0}
 FollowsFrom caches cores code_lines letters (Done entry ∷ items) =
     (is_hit (letters.letter (cache_of entry) (line_of entry)) entry.kind ≡ true)
     × FollowsFrom caches cores code_lines (after_entry letters entry) items
 FollowsFrom caches cores code_lines letters (Bus bus ∷ items) =
     IsAllowed caches cores code_lines letters bus
-    × FollowsFrom caches cores code_lines (after_transaction caches.sets letters bus) items
+    × FollowsFrom caches cores code_lines (after_transaction caches letters bus) items
 
 -- A history follows the letters of its caches. Where there are none, there is no bus.
-abbrev pub Follows : Option Shape → ℕ → ℕ → List Item → Type 0
+abbrev pub Follows : Option Caches → ℕ → ℕ → List Item → Type 0
 Follows None cores code_lines items = transactions items ≡ []
 Follows (Some caches) cores code_lines items = FollowsFrom caches cores code_lines no_letters items

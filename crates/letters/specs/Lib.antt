@@ -1,3 +1,4 @@
 pub mod Moesi
+pub mod Caches
 pub mod Fold
 pub mod Worked

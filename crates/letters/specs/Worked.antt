@@ -6,11 +6,11 @@ use Rattle.access_log.specs.declared.Letter.{Letter}
 use Rattle.access_log.specs.declared.Letter.TheVariants as letters
 use Rattle.access_log.specs.declared.Item.{Item}
 use Rattle.access_log.specs.declared.Item.TheVariants.{Done, Bus}
-use Rattle.letters.specs.declared.Shape.{Shape}
+use Rattle.letters.specs.Caches.{Caches, moesi, all_with}
 use Rattle.letters.specs.Fold.{no_letters, FollowsFrom}
 
-abbrev pub caches : Shape
-caches = record { sets = 1; ways = 1 }
+abbrev pub caches : Caches
+caches = all_with moesi 1 1
 
 -- An access to the first word of a line.
 abbrev pub access : ℕ → ℕ → Kind → ℕ → ℕ → Option ℕ → Item

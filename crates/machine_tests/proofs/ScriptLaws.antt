@@ -3,7 +3,7 @@ use Rattle.std.proofs.Common.{◌≡◌, ◌≢◌, ℕ, zero, suc, ◌-◌, ◌
 use Rattle.std.specs.Prelude.{slice_set}
 use Rattle.std.proofs.lemmas.Bool.{cases_eq}
 use Rattle.image_file.specs.Value.{ImageValue, memory_bytes}
-use Rattle.letters.specs.declared.Shape.{Shape}
+use Rattle.letters.specs.Caches.{Caches}
 use Rattle.access_log.specs.declared.request.Request.{Request}
 use Rattle.mem_port.specs.declared.port.Port.{Port}
 use Rattle.mem_port.specs.declared.port.Port.TheVariants.{Fetch, Access}
@@ -55,7 +55,7 @@ free-all (suc zero) = refl
 free-all (suc (suc core)) = refl
 
 -- At first nothing was made of a port.
-pub fits-fresh : (image : ImageValue) (left : ℕ) (caches : Option Shape) (m : MemoryView) → IsFresh image 2 left caches m → 4 * length image.code ≤ 256 → 256 < memory_bytes image → Fits (Free ∷ Free ∷ []) left m
+pub fits-fresh : (image : ImageValue) (left : ℕ) (caches : Option Caches) (m : MemoryView) → IsFresh image 2 left caches m → 4 * length image.code ≤ 256 → 256 < memory_bytes image → Fits (Free ∷ Free ∷ []) left m
 fits-fresh image left caches m fresh code memory = record {
   lawful = fresh.lawful;
   cores = fresh.cores_are;

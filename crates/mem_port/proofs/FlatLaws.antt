@@ -1,5 +1,5 @@
 -- A memory that answers each request as it is served keeps the law.
-use Rattle.std.proofs.Common.{◌≡◌, ◌≢◌, ℕ, zero, suc, ◌+◌, ◌*◌, ◌<◌, ◌≤◌, inl, inr, List, [], ◌∷◌, ◌++◌, length, get_or, append-nil, refl, ap, sym, ◌∙◌, arith, subst, get_or-set_same, get_or-set_other, None}
+use Rattle.std.proofs.Common.{◌≡◌, ◌≢◌, ℕ, zero, suc, ◌+◌, ◌*◌, ◌<◌, ◌≤◌, inl, inr, List, [], ◌∷◌, ◌++◌, length, get_or, append-nil, refl, ap, sym, ◌∙◌, arith, subst, None}
 use Rattle.std.specs.Prelude.{slice_set, replicate}
 use Rattle.std.specs.List.{sum_by}
 use Rattle.std.proofs.lemmas.List.{get_or_default, get_or-replicate}
@@ -21,30 +21,8 @@ use Rattle.mem_port.specs.declared.cell.Cell.{Cell}
 use Rattle.mem_port.specs.Ports.{core_of, MayAsk, IsWaiting, HoldsProper, HoldsCode, HoldsEntry, but_last, items_of}
 use Rattle.mem_port.specs.Memory.{IsLawful, IsFresh}
 use Rattle.mem_port.specs.Flat.{place_of, no_cell, cell_at, flat, IsFound, pending, weight}
-use Rattle.mem_port.proofs.PortLaws.{cases_port, but_last-append, own-answered_other, own-answered_same}
-
--- Each port has a place of its own.
-place-other : (p q : Port) → q ≢ p → place_of q ≢ place_of p
-place-other (Fetch c) (Fetch k) ne e = let f : k ≡ c = omega arith in ne (ap Fetch f)
-place-other (Fetch c) (Access k) ne e = omega arith
-place-other (Access c) (Fetch k) ne e = omega arith
-place-other (Access c) (Access k) ne e = let f : k ≡ c = omega arith in ne (ap Access f)
-
--- What a port has after a change of one cell: of its own, or of another.
-module _ (cells : List Cell) (p : Port) (place : ℕ) (cell : Cell) (at : place ≡ place_of p) (within : place < length cells) where
-  cell-same : cell_at (slice_set cells place cell) p ≡ cell
-  cell-same = rw (← at) (get_or-set_same cells place cell no_cell within)
-
-  cell-other : (q : Port) → q ≢ p → cell_at (slice_set cells place cell) q ≡ cell_at cells q
-  cell-other q ne = get_or-set_other cells place (place_of q) cell no_cell (λ e. place-other p q ne (e ∙ at))
-
-  -- What holds of each port before holds after, where it holds of the new cell.
-  each-port : (Q : PortState → Type 0) (q : Port) → (q ≡ p → Q cell.state) → (q ≢ p → Q (cell_at cells q).state) → Q (cell_at (slice_set cells place cell) q).state
-  each-port Q q here there =
-      elim (cases_port p q) as (λ _. Q (cell_at (slice_set cells place cell) q).state) [
-        | inl e ↦ (let R : Port → Type 0 = λ r. Q (cell_at (slice_set cells place cell) r).state in subst R (sym e) (subst (λ (c : Cell). Q c.state) (sym cell-same) (here e)))
-        | inr ne ↦ subst (λ (c : Cell). Q c.state) (sym (cell-other q ne)) (there ne)
-      ]
+use Rattle.mem_port.proofs.CellLaws.{each-port}
+use Rattle.mem_port.proofs.PortLaws.{but_last-append, own-answered_other, own-answered_same}
 
 -- What a new cell and new items need, so that the law is kept.
 record IsChange (image : ImageValue) (p : Port) (state : PortState) (old new : List Item) : Type 0 where
@@ -189,4 +167,5 @@ fresh-flat image copy cores asks items cells e good none all =
       history = refl;
       ports = λ p. free-all (2 * cores) (place_of p) asks;
       asks_left = λ p lt. ap (λ (c : Cell). c.asks) (get_or-replicate (2 * cores) (place_of p) (record { state = Free; asks = asks }) no_cell (place-below p cores lt));
+      idle = refl;
     })

@@ -1,4 +1,5 @@
 pub mod PortLaws
 pub mod LoadedLaws
 pub mod SideLaws
+pub mod CellLaws
 pub mod FlatLaws

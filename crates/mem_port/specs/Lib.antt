@@ -1,6 +1,7 @@
 pub mod Loaded
 pub mod Ports
 pub mod Memory
+pub mod Calls
 pub mod Engine
 pub mod Pace
 pub mod Side

@@ -7,7 +7,7 @@ use Rattle.access_log.specs.declared.Entry.{Entry}
 use Rattle.access_log.specs.declared.Transaction.{Transaction}
 use Rattle.access_log.specs.declared.Item.{Item}
 use Rattle.access_log.specs.declared.Item.TheVariants.{Bus}
-use Rattle.letters.specs.declared.Shape.{Shape}
+use Rattle.letters.specs.Caches.{Caches}
 use Rattle.letters.specs.Fold.{Follows}
 use Rattle.mem_port.specs.declared.port.Port.{Port}
 use Rattle.mem_port.specs.declared.port.Port.TheVariants.{Fetch, Access}
@@ -25,7 +25,7 @@ pub record MemoryView : Type 0 where
   -- What it was made with: the loaded image, the number of cores, and the caches between them and it, where there are any.
   pub image : ImageValue
   pub cores : ℕ
-  pub caches : Option Shape
+  pub caches : Option Caches
   -- What was done, the oldest first.
   pub history : List Item
   -- What is on each port, and how many requests may still be asked there.
@@ -67,7 +67,7 @@ pub record IsLawful (m : MemoryView) : Type 0 where
   pub unloaded : IsTrue m.tells_load → ((q : Port) → m.port q ≡ Free) → m.load ≡ 0
 
 -- A memory before its first call.
-pub record IsFresh (image : ImageValue) (cores asks : ℕ) (caches : Option Shape) (m : MemoryView) : Type 0 where
+pub record IsFresh (image : ImageValue) (cores asks : ℕ) (caches : Option Caches) (m : MemoryView) : Type 0 where
   pub lawful : IsLawful m
   pub image_is : m.image ≡ image
   pub cores_are : m.cores ≡ cores
@@ -75,6 +75,8 @@ pub record IsFresh (image : ImageValue) (cores asks : ℕ) (caches : Option Shap
   pub history : m.history ≡ []
   pub ports : (q : Port) → m.port q ≡ Free
   pub asks_left : (q : Port) → core_of q < cores → m.asks_left q ≡ asks
+  -- There is nothing to be moved.
+  pub idle : m.is_busy ≡ false
 
 -- It answers every request as it is served.
 pub record IsAtOnce (m : MemoryView) : Type 0 where
@@ -122,6 +124,8 @@ pub record Serves (p : Port) (r : Request) (old new : MemoryView) : Type 0 where
   pub others : LeavesPorts p old new
   pub asks : new.asks_left p ≡ old.asks_left p
   pub outcome : Begins p r old new
+  -- Something is to be moved only where something was before, or the request waits.
+  pub busy : IsTrue new.is_busy → IsTrue old.is_busy ⊎ (new.port p ≡ Waiting r)
   pub load : IsTrue old.tells_load → new.load ≤ old.load
 
 -- At most one transaction.
@@ -173,6 +177,7 @@ pub record Leaves (p : Port) (state : PortState) (old new : MemoryView) : Type 0
   pub port : new.port p ≡ state
   pub asks : new.asks_left p ≡ old.asks_left p
   pub history : new.history ≡ old.history
+  pub busy : IsTrue new.is_busy → IsTrue old.is_busy
   pub load : IsTrue old.tells_load → new.load ≤ old.load
 
 -- The answer that is on a port.

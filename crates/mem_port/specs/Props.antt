@@ -11,8 +11,8 @@ use Rattle.access_log.specs.declared.Entry.{Entry}
 use Rattle.access_log.specs.declared.Transaction.{Transaction}
 use Rattle.access_log.specs.declared.Item.{Item}
 use Rattle.access_log.specs.declared.Item.TheVariants.{Done, Bus}
-use Rattle.letters.specs.declared.Shape.{Shape}
-use Rattle.letters.specs.Fold.{Letters, IsSupplier, IsAllowed, FollowsFrom, Follows, after_entry, after_transaction, no_letters}
+use Rattle.letters.specs.Caches.{Caches}
+use Rattle.letters.specs.Fold.{LettersValue, IsSupplier, IsAllowed, FollowsFrom, Follows, after_entry, after_transaction, no_letters}
 use Rattle.mem_port.specs.declared.port.Port.{Port}
 use Rattle.mem_port.specs.declared.port.Port.TheVariants.{Fetch, Access}
 use Rattle.mem_port.specs.declared.port.PortState.{PortState}
@@ -34,15 +34,15 @@ IsSupplier-prop : (letter : ℕ → ℕ → Letter) (master line : ℕ) (supplie
 IsSupplier-prop letter master line None = hlevel props
 IsSupplier-prop letter master line (Some cache) = hlevel props
 
-IsAllowed-prop : (caches : Shape) (cores code_lines : ℕ) (letters : Letters) (bus : Transaction) → IsProp (IsAllowed caches cores code_lines letters bus)
+IsAllowed-prop : (caches : Caches) (cores code_lines : ℕ) (letters : LettersValue) (bus : Transaction) → IsProp (IsAllowed caches cores code_lines letters bus)
 IsAllowed-prop caches cores code_lines letters bus = hlevel (props, IsSupplier-prop)
 
-FollowsFrom-prop : (caches : Shape) (cores code_lines : ℕ) (letters : Letters) (items : List Item) → IsProp (FollowsFrom caches cores code_lines letters items)
+FollowsFrom-prop : (caches : Caches) (cores code_lines : ℕ) (letters : LettersValue) (items : List Item) → IsProp (FollowsFrom caches cores code_lines letters items)
 FollowsFrom-prop caches cores code_lines letters [] = hlevel props
 FollowsFrom-prop caches cores code_lines letters (Done entry ∷ items) = hlevel (props, FollowsFrom-prop caches cores code_lines (after_entry letters entry) items)
-FollowsFrom-prop caches cores code_lines letters (Bus bus ∷ items) = hlevel (props, IsAllowed-prop, FollowsFrom-prop caches cores code_lines (after_transaction caches.sets letters bus) items)
+FollowsFrom-prop caches cores code_lines letters (Bus bus ∷ items) = hlevel (props, IsAllowed-prop, FollowsFrom-prop caches cores code_lines (after_transaction caches letters bus) items)
 
-Follows-prop : (caches : Option Shape) (cores code_lines : ℕ) (items : List Item) → IsProp (Follows caches cores code_lines items)
+Follows-prop : (caches : Option Caches) (cores code_lines : ℕ) (items : List Item) → IsProp (Follows caches cores code_lines items)
 Follows-prop None cores code_lines items = hlevel props
 Follows-prop (Some caches) cores code_lines items = FollowsFrom-prop caches cores code_lines no_letters items
 

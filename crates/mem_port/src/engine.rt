@@ -1,7 +1,7 @@
 //! The law of an engine that runs one core.
 ghost use Rattle.std.specs.Prelude.{◌≡◌, ◌≤◌, IsSome, true};
 ghost use Rattle.mem_port.specs.Engine.{EngineView, IsSound, FetchFits, ReplyFits, Clocks, Drains};
-ghost use Rattle.mem_port.specs.Pace.{Pace, Paces, PacesDrain};
+ghost use Rattle.mem_port.specs.Pace.{Pace, Paces, PacesDrain, UsesService};
 
 use access_log::Request;
 use mips_isa::{CoreState, Stop};
@@ -24,6 +24,9 @@ pub trait CoreEngine: Drop {
 
     /// What it tells of its own times, where its wants were met at this pace.
     ghost timed: { Pace → Self → Type 0 };
+
+    /// It never idles but where a want stays unmet, and fetches no more than it needs.
+    ghost uses: { (pace : Pace) (e : Self) → timed pace e → UsesService pace.service (view e).executed };
 
     /// The byte address of the word of code that it waits for, if any.
     fn want_fetch(&self) -> Option<u32>

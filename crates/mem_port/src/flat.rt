@@ -3,6 +3,7 @@ ghost use Rattle.std.specs.Prelude.{◌≡◌, ◌≤◌, ◌*◌, None, vec_len
 ghost use Rattle.std.specs.List.{sum_by};
 ghost use Rattle.image_file.specs.Value.{memory_bytes, start_memory};
 ghost use Rattle.access_log.specs.Items.{after_items};
+ghost use Rattle.mem_port.specs.Calls.{Obeys};
 ghost use Rattle.mem_port.specs.Memory.{IsFresh, IsAtOnce};
 ghost use Rattle.mem_port.specs.Flat.{flat, weight};
 
@@ -57,6 +58,11 @@ impl FlatMemory {
 
 impl MemoryCore for FlatMemory {
     ghost view = { λ m. flat m.image m.cores m.history.items m.cells.items };
+
+    /// There is never anything to choose.
+    ghost makes = { λ call m n. Obeys call (flat m.image m.cores m.history.items m.cells.items) (flat n.image n.cores n.history.items n.cells.items) };
+
+    ghost obeys = { λ call m n made. made };
 
     fn ask(&mut self, port: Port, request: Request) {
         let place = place(port);

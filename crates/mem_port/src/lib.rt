@@ -11,6 +11,7 @@ mod flat;
 mod memory;
 mod port;
 
+pub use cell::{Cell, place};
 pub use engine::{CoreEngine, Progress};
 pub use flat::FlatMemory;
 pub use memory::MemoryCore;

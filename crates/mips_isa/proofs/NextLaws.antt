@@ -11,11 +11,11 @@ use Rattle.mips_isa.specs.declared.Stop.TheVariants as stops
 use Rattle.mips_isa.specs.declared.Access.{Access}
 use Rattle.mips_isa.specs.declared.CoreState.{CoreState}
 use Rattle.mips_isa.specs.declared.Next.TheVariants.{Stops, Asks}
-use Rattle.mips_isa.specs.Effects.{kind_of, address_of, access_stop, instr_stop, first_stop, is_off_code, IsAllowed}
+use Rattle.mips_isa.specs.Effects.{kind_of, address_of, access_stop, instr_stop, first_stop, is_off_code, IsProperAddress}
 use Rattle.mips_isa.specs.Steps.{rs_value, rs_value_at, instr_at, stop_of, next_by, next_at, next_of, IsAccess, MayAccess}
 
 -- An access without a stop is allowed.
-access_stop-none : (cb mb : ℕ) (k : Kind) (a : ℕ) → access_stop cb mb k a ≡ None → IsAllowed cb mb (Some k) a
+access_stop-none : (cb mb : ℕ) (k : Kind) (a : ℕ) → access_stop cb mb k a ≡ None → IsProperAddress cb mb (Some k) a
 access_stop-none cb mb kinds.Fetch a h = (grind (arith, nat_tests), grind (arith, nat_tests), λ e. grind (arith, nat_tests))
 access_stop-none cb mb kinds.Lw a h = (grind (arith, nat_tests), grind (arith, nat_tests), λ e. grind (arith, nat_tests))
 access_stop-none cb mb kinds.Sw a h = (grind (arith, nat_tests), grind (arith, nat_tests), λ e. grind (arith, nat_tests))

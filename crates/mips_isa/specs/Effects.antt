@@ -96,9 +96,9 @@ rt_of (Cas rd rs rt) = rt
 rt_of _ = 0
 
 -- The register rd of a compare and swap, whose old value is the word that it expects, else 0.
-unfoldable pub swapped_by : Instr → ℕ
-swapped_by (Cas rd rs rt) = rd
-swapped_by _ = 0
+unfoldable pub expected_by : Instr → ℕ
+expected_by (Cas rd rs rt) = rd
+expected_by _ = 0
 
 -- The register that an instruction writes; 0 where it writes none. A jump with link writes register 31.
 unfoldable pub written_by : Instr → ℕ
@@ -115,7 +115,7 @@ written_by _ = 0
 
 -- Whether an instruction reads a register other than register 0.
 abbrev pub is_read_by : Instr → ℕ → Bool
-is_read_by instr r = nat_lt 0 r && ((r == rs_of instr) || ((r == rt_of instr) || (r == swapped_by instr)))
+is_read_by instr r = nat_lt 0 r && ((r == rs_of instr) || ((r == rt_of instr) || (r == expected_by instr)))
 
 -- The access that an instruction makes, beside its own fetch.
 unfoldable pub kind_of : Instr → Option Kind
@@ -180,9 +180,9 @@ access_stop code_bytes memory_bytes kind addr =
     else None))
 
 -- What holds of an access that has no stop: it is aligned and inside the memory, and where it may store, past the code.
-abbrev pub IsAllowed : ℕ → ℕ → Option Kind → ℕ → Type 0
-IsAllowed code_bytes memory_bytes None addr = Unit {0}
-IsAllowed code_bytes memory_bytes (Some kind) addr =
+abbrev pub IsProperAddress : ℕ → ℕ → Option Kind → ℕ → Type 0
+IsProperAddress code_bytes memory_bytes None addr = Unit {0}
+IsProperAddress code_bytes memory_bytes (Some kind) addr =
     (addr % width kind ≡ 0) × (addr < memory_bytes) × (IsTrue (stores kind) → code_bytes ≤ addr)
 
 -- Whether no instruction stands at an address: it is no multiple of 4, or not below the code's bytes.

@@ -13,7 +13,7 @@ use Rattle.mips_isa.specs.declared.Next.TheVariants.{Stops, Asks, Goes}
 use Rattle.mips_isa.specs.declared.Stop.TheVariants.{OffCode}
 use Rattle.mips_isa.specs.Fields.{instr_of}
 use Rattle.mips_isa.specs.Kinds.{part, loaded}
-use Rattle.mips_isa.specs.Effects.{sum_of, rs_of, rt_of, swapped_by, written_by, kind_of, address_of, result_of, next_pc_of, first_stop, IsAllowed}
+use Rattle.mips_isa.specs.Effects.{sum_of, rs_of, rt_of, expected_by, written_by, kind_of, address_of, result_of, next_pc_of, first_stop, IsProperAddress}
 
 -- The state in which a core begins: register 4 has its number, register 5 the count of the cores, all others 0.
 unfoldable pub start : ℕ → ℕ → CoreState
@@ -41,8 +41,8 @@ abbrev pub rt_value : CoreState → Instr → ℕ
 rt_value state instr = slice_index state.regs (rt_of instr)
 
 -- What the register rd of a compare and swap holds before it.
-abbrev pub swapped_value : CoreState → Instr → ℕ
-swapped_value state instr = slice_index state.regs (swapped_by instr)
+abbrev pub expected_value : CoreState → Instr → ℕ
+expected_value state instr = slice_index state.regs (expected_by instr)
 
 -- The state after an instruction that makes no access. All its registers are read before it writes.
 unfoldable pub executed : Instr → CoreState → CoreState
@@ -81,7 +81,7 @@ next_by state instr None = Goes (executed instr state)
 next_by state instr (Some kind) = Asks (record {
   kind = kind;
   addr = address_of instr (rs_value state instr);
-  expected = swapped_value state instr;
+  expected = expected_value state instr;
   value = part kind 0 (rt_value state instr);
 })
 
@@ -122,13 +122,13 @@ IsAccess kinds.Cas = Unit {0}
 
 -- What may be asked of memory: an access that would not stop.
 abbrev pub MayAccess : ℕ → ℕ → Kind → ℕ → Type 0
-MayAccess code_bytes memory_bytes kind addr = IsAccess kind × IsAllowed code_bytes memory_bytes (Some kind) addr
+MayAccess code_bytes memory_bytes kind addr = IsAccess kind × IsProperAddress code_bytes memory_bytes (Some kind) addr
 
 -- Where a core asks for an access, the access has no stop.
-abbrev pub IsAllowedNext : List ℕ → ℕ → Next → Type 0
-IsAllowedNext code memory_bytes (Asks access) = IsAllowed (4 * length code) memory_bytes (Some access.kind) access.addr
-IsAllowedNext code memory_bytes (Goes state) = Unit {0}
-IsAllowedNext code memory_bytes (Stops stop) = Unit {0}
+abbrev pub IsProperNext : List ℕ → ℕ → Next → Type 0
+IsProperNext code memory_bytes (Asks access) = IsProperAddress (4 * length code) memory_bytes (Some access.kind) access.addr
+IsProperNext code memory_bytes (Goes state) = Unit {0}
+IsProperNext code memory_bytes (Stops stop) = Unit {0}
 
 -- Register 0 holds what it held.
 abbrev pub KeepsZero : CoreState → CoreState → Type 0

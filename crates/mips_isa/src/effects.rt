@@ -5,7 +5,7 @@
 ghost use Rattle.std.specs.Prelude.{◌≡◌, ◌%◌, ◌^◌, ◌<◌, ◌==◌, if◌then◌else◌, IfSome, IfNone, IsSome, int_lt};
 ghost use Rattle.mips_isa.specs.Words.{IsProper};
 ghost use Rattle.mips_isa.specs.Kinds.{width, loads, stores, part, with_part, loaded};
-ghost use Rattle.mips_isa.specs.Effects.{signed, sign_extended, sign_filled, shifted, computed, computed_with, rs_of, rt_of, swapped_by, written_by, is_read_by, kind_of, address_of, result_of, passes, branch_target, jump_target, next_pc_of, access_stop, IsAllowed, first_stop};
+ghost use Rattle.mips_isa.specs.Effects.{signed, sign_extended, sign_filled, shifted, computed, computed_with, rs_of, rt_of, expected_by, written_by, is_read_by, kind_of, address_of, result_of, passes, branch_target, jump_target, next_pc_of, access_stop, IsProperAddress, first_stop};
 
 use crate::{AluOp, ImmOp, Instr, Kind, ShiftOp, Stop, ZeroOp};
 
@@ -73,10 +73,10 @@ pub fn rt(instr: Instr) -> u8
 }
 
 /// The register that has the word which a compare and swap expects; 0 for another instruction.
-#[tactic(auto, unfolding(crate::specs::Effects::swapped_by))]
-pub fn swapped(instr: Instr) -> u8
+#[tactic(auto, unfolding(crate::specs::Effects::expected_by))]
+pub fn expected(instr: Instr) -> u8
     requires proper { IsProper instr }
-    ensures value { result ≡ swapped_by instr }
+    ensures value { result ≡ expected_by instr }
     ensures bound { result < 32 }
 {
     match instr {
@@ -109,7 +109,7 @@ pub fn reads(instr: Instr, r: u8) -> bool
     requires proper { IsProper instr }
     ensures value { result ≡ is_read_by instr r }
 {
-    r > 0 && (r == rs(instr) || r == rt(instr) || r == swapped(instr))
+    r > 0 && (r == rs(instr) || r == rt(instr) || r == expected(instr))
 }
 
 /// The register that an instruction writes, from 1 to 31; `None` where it writes none or register 0.
@@ -278,7 +278,7 @@ pub fn next_pc(instr: Instr, a: u32, b: u32, pc: u32) -> u32
 
 fn access_stop(code_bytes: u32, memory_bytes: u32, kind: Kind, addr: u32) -> Option<Stop>
     ensures value { result ≡ access_stop code_bytes memory_bytes kind addr }
-    ensures allowed { IfNone result (IsAllowed code_bytes memory_bytes (Some kind) addr) }
+    ensures allowed { IfNone result (IsProperAddress code_bytes memory_bytes (Some kind) addr) }
 {
     if addr % width(kind) != 0 {
         Some(Stop::Misaligned)
@@ -305,7 +305,7 @@ pub fn stop(
     requires proper { IfSome instr (λ i. IsProper i) }
     requires known { dpc % 4 ≡ 0 → dpc < code_bytes → IsSome instr }
     ensures value { result ≡ first_stop code_bytes memory_bytes dpc instr a }
-    ensures allowed { IfNone result (IfSome instr (λ i. IsAllowed code_bytes memory_bytes (kind_of i) (address_of i a))) }
+    ensures allowed { IfNone result (IfSome instr (λ i. IsProperAddress code_bytes memory_bytes (kind_of i) (address_of i a))) }
 {
     if dpc % 4 != 0 || dpc >= code_bytes {
         return Some(Stop::OffCode);

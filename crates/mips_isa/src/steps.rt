@@ -3,8 +3,8 @@
 //! The code is the list of its words, of which the first stands at address 0. Sizes and addresses are in bytes.
 ghost use Rattle.std.specs.Prelude.{◌≡◌, ◌*◌, ◌<◌, ◌≤◌, IfSome, IfNone, length, slice_index};
 ghost use Rattle.mips_isa.specs.Words.{IsProper};
-ghost use Rattle.mips_isa.specs.Effects.{kind_of, address_of, IsAllowed};
-ghost use Rattle.mips_isa.specs.Steps.{start, written_where, rs_value, executed, answered, instr_at, rs_value_at, stop_of, next_of, IsAllowedNext, finish_of, IsCode, KeepsZero, KeepsZeroNext};
+ghost use Rattle.mips_isa.specs.Effects.{kind_of, address_of, IsProperAddress};
+ghost use Rattle.mips_isa.specs.Steps.{start, written_where, rs_value, executed, answered, instr_at, rs_value_at, stop_of, next_of, IsProperNext, finish_of, IsCode, KeepsZero, KeepsZeroNext};
 
 use crate::words::decode;
 use crate::{Access, CoreState, Instr, Kind, Next, Stop, effects};
@@ -105,7 +105,7 @@ fn stop_with(
     requires known { instr ≡ instr_at code.now state.now.dpc }
     requires proper { IfSome instr (λ i. IsProper i) }
     ensures value { result ≡ stop_of code.now memory_bytes state.now }
-    ensures allowed { IfNone result (IfSome instr (λ i. IsAllowed (4 * length code.now) memory_bytes (kind_of i) (address_of i (rs_value state.now i)))) }
+    ensures allowed { IfNone result (IfSome instr (λ i. IsProperAddress (4 * length code.now) memory_bytes (kind_of i) (address_of i (rs_value state.now i)))) }
 {
     let a = rs_value_at(state, instr);
     effects::stop(4 * code.len() as u32, memory_bytes, state.dpc, instr, a)
@@ -128,7 +128,7 @@ pub fn next(code: &[u32], memory_bytes: u32, state: &CoreState) -> Next
     requires code { IsCode code.now }
     requires few { length code.now ≤ 65536 }
     ensures value { result ≡ next_of code.now memory_bytes state.now }
-    ensures allowed { IsAllowedNext code.now memory_bytes result }
+    ensures allowed { IsProperNext code.now memory_bytes result }
     ensures zero { KeepsZeroNext state.now result }
 {
     let instr = instr_at(code, state.dpc);
@@ -146,7 +146,7 @@ pub fn next(code: &[u32], memory_bytes: u32, state: &CoreState) -> Next
             Next::Asks(Access {
                 kind,
                 addr: effects::address(instr, a),
-                expected: state.regs[effects::swapped(instr) as usize],
+                expected: state.regs[effects::expected(instr) as usize],
                 value: effects::part(kind, 0, b),
             })
         }

@@ -16,7 +16,7 @@ use Rattle.mips_isa.specs.Steps.{start, written_to, executed, answered, instr_at
 use Rattle.access_log.specs.declared.Core.{Core}
 use Rattle.access_log.specs.declared.Entry.{Entry}
 use Rattle.access_log.specs.Memory.{due, is_same}
-use Rattle.access_log.specs.Replay.{FlatMachine, memory_bytes, quiet, next_in, caught_up, caught_up_in, core_at, finished, entered_by, entered, entered_all, starting, started}
+use Rattle.access_log.specs.Replay.{FlatMachine, memory_bytes, quiet, next_in, caught_up, caught_up_in, caught_up_for, finished, entered_by, entered, entered_all, starting, started}
 use Rattle.access_log.proofs.ReplayLaws.{and_then_parts, where_true}
 use Rattle.seq_machine.proofs.Entering.{as_large-entered}
 use Rattle.replayer.specs.Cores.{farthest}
@@ -143,7 +143,7 @@ by_leaves machine entry core (Asks access) new made all has =
 entered-leaves : (entry : Entry) (machine new : FlatMachine) → entered entry machine ≡ Some new → AllByRecursion HasRegisters machine.cores → Leaves machine new
 unfolding entered
 entered-leaves entry machine new made all =
-    let by = and_then_parts (λ (core : Core). entered_by machine entry core (next_in machine core)) (core_at machine entry) new made in
+    let by = and_then_parts (λ (core : Core). entered_by machine entry core (next_in machine core)) (caught_up_for machine entry) new made in
     let from = and_then_parts (caught_up_in machine entry.nth) (slice_get machine.cores entry.core) by.0 by.1 in
     by_leaves machine entry by.0 (next_in machine by.0) new by.2 all
     (caught_up-registers machine.code (memory_bytes machine) entry.nth from.0 by.0 from.2 (all-get machine.cores entry.core from.0 all from.1))

@@ -14,7 +14,7 @@ use Rattle.mips_isa.proofs.NextLaws.{next-may}
 use Rattle.access_log.specs.declared.Core.{Core}
 use Rattle.access_log.specs.declared.Entry.{Entry}
 use Rattle.access_log.specs.Memory.{made, due, is_same}
-use Rattle.access_log.specs.Replay.{FlatMachine, next_in, caught_up, core_at, finished, entered_by, entered, entered_all, with_core, moved, ended, started, starting, replay, own, own_by, own_step, own_steps}
+use Rattle.access_log.specs.Replay.{FlatMachine, next_in, caught_up, caught_up_for, finished, entered_by, entered, entered_all, with_core, moved, ended, started, starting, replay, own, own_by, own_step, own_steps}
 use Rattle.access_log.specs.Interleaving.{Interleaves}
 use Rattle.access_log.proofs.EntryLaws.{is_same-true}
 use Rattle.access_log.proofs.InterleavingLaw.{length-start}
@@ -37,7 +37,7 @@ unfolding entered entered_all
 entered_all-cores [] machine new h = ap (λ (m : FlatMachine). length m.cores) (sym (same_Some machine new h))
 entered_all-cores (entry ∷ order) machine new h =
     let first = and_then_parts (entered_all order) (entered entry machine) new h in
-    let there = and_then_parts (λ (core : Core). entered_by machine entry core (next_in machine core)) (core_at machine entry) first.0 first.1 in
+    let there = and_then_parts (λ (core : Core). entered_by machine entry core (next_in machine core)) (caught_up_for machine entry) first.0 first.1 in
     entered_all-cores order first.0 new first.2 ∙ entered_by-cores machine entry there.0 (next_in machine there.0) first.0 there.2
 
 ended-cores : (place : ℕ) (counts : List ℕ) (machine new : FlatMachine) → ended place counts machine ≡ Some new → length new.cores ≡ length machine.cores

@@ -8,7 +8,7 @@ use Rattle.mips_isa.specs.declared.Next.TheVariants.{Stops, Asks, Goes}
 use Rattle.access_log.specs.declared.Core.{Core}
 use Rattle.access_log.specs.declared.Entry.{Entry}
 use Rattle.access_log.specs.Memory.{due, after, is_same}
-use Rattle.access_log.specs.Replay.{FlatMachine, memory_bytes, with_core, next_in, finished, core_at, entered, entered_by}
+use Rattle.access_log.specs.Replay.{FlatMachine, memory_bytes, with_core, next_in, finished, caught_up_for, entered, entered_by}
 use Rattle.access_log.proofs.ReplayLaws.{and_then_parts, where_true}
 use Rattle.access_log.proofs.ItemLaws.{length-after}
 use Rattle.access_log.specs.declared.field.Field.{Field}
@@ -92,5 +92,5 @@ by_keeps machine entry core (Asks access) new h =
 pub as_large-entered : (machine : FlatMachine) (entry : Entry) (new : FlatMachine) → entered entry machine ≡ Some new → IsAsLarge machine new
 unfolding entered
 as_large-entered machine entry new h =
-    let parts = and_then_parts (λ (core : Core). entered_by machine entry core (next_in machine core)) (core_at machine entry) new h in
+    let parts = and_then_parts (λ (core : Core). entered_by machine entry core (next_in machine core)) (caught_up_for machine entry) new h in
     by_keeps machine entry parts.0 (next_in machine parts.0) new parts.2

@@ -1,0 +1,25 @@
+-- The caches that stand between cores and memory: their shape, and the protocol by which each holds its lines.
+use Rattle.std.specs.Prelude.{ℕ, Bool}
+use Rattle.access_log.specs.declared.Letter.{Letter}
+use Rattle.letters.specs.Moesi as moesi_tables
+
+-- A protocol, as its two tables.
+pub record Protocol : Type 0 where
+  -- The letter of the master behind its transaction, by the intent to modify and by the other caches that held the line.
+  pub after_finish : Bool → ℕ → Letter
+  -- The letter of another cache behind it, by the one that it had and the intent to modify.
+  pub after_act : Letter → Bool → Letter
+
+abbrev pub moesi : Protocol
+moesi = record { after_finish = moesi_tables.after_finish; after_act = moesi_tables.after_act }
+
+-- A line stands in the set with the number that is the rest of its own by the number of sets, and a set has room for so many
+-- lines. Each cache has its protocol.
+pub record Caches : Type 0 where
+  pub sets : ℕ
+  pub ways : ℕ
+  pub protocol : ℕ → Protocol
+
+-- All caches follow one protocol.
+abbrev pub all_with : Protocol → ℕ → ℕ → Caches
+all_with protocol sets ways = record { sets = sets; ways = ways; protocol = λ cache. protocol }
