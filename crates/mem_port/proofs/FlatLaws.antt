@@ -10,7 +10,6 @@ use Rattle.access_log.specs.Memory.{word_at}
 use Rattle.access_log.specs.Items.{transactions, after_items, IsLegal, own_items}
 use Rattle.access_log.specs.Requests.{entry_of, access_of, old_at}
 use Rattle.access_log.proofs.ItemLaws.{transactions-append, after_items-append, IsLegal-append}
-use Rattle.access_log.specs.declared.Entry.{Entry}
 use Rattle.access_log.specs.declared.request.Request.{Request}
 use Rattle.access_log.specs.declared.Item.{Item}
 use Rattle.mem_port.specs.declared.port.Port.{Port}
@@ -21,11 +20,12 @@ use Rattle.mem_port.specs.declared.cell.Cell.{Cell}
 use Rattle.mem_port.specs.Ports.{core_of, MayAsk, IsWaiting, HoldsProper, HoldsCode, HoldsEntry, but_last, items_of}
 use Rattle.mem_port.specs.Memory.{IsLawful, IsFresh}
 use Rattle.mem_port.specs.Flat.{place_of, no_cell, cell_at, flat, IsFound, pending, weight}
-use Rattle.mem_port.proofs.CellLaws.{each-port}
-use Rattle.mem_port.proofs.PortLaws.{but_last-append, own-answered_other, own-answered_same}
+use Rattle.mem_port.proofs.CellLaws.{cell-same, cell-other}
+use Rattle.mem_port.proofs.ChangeLaws.{change-lawful}
+use Rattle.mem_port.proofs.PortLaws.{cases_port, but_last-append, own-answered_other, own-answered_same}
 
--- What a new cell and new items need, so that the law is kept.
-record IsChange (image : ImageValue) (p : Port) (state : PortState) (old new : List Item) : Type 0 where
+-- What a new cell and new items need, so that the law is kept: no request waits.
+record IsCellChange (image : ImageValue) (p : Port) (state : PortState) (old new : List Item) : Type 0 where
   legal : IsLegal (start_memory image) new
   no_bus : transactions new ≡ []
   others : (core : ℕ) → Access core ≢ p → own_items new core ≡ own_items old core
@@ -36,22 +36,30 @@ record IsChange (image : ImageValue) (p : Port) (state : PortState) (old new : L
 
 -- The law after a change of one cell, and maybe of the items.
 lawful-after : (image : ImageValue) (cores : ℕ) (cells : List Cell) (p : Port) (place : ℕ) (cell : Cell) (old new : List Item) → place ≡ place_of p → place < length cells → core_of p < cores →
-    IsLawful (flat image cores old cells) → IsChange image p cell.state old new → IsLawful (flat image cores new (slice_set cells place cell))
+    IsLawful (flat image cores old cells) → IsCellChange image p cell.state old new → IsLawful (flat image cores new (slice_set cells place cell))
 lawful-after image cores cells p place cell old new at within below law change =
-    let rests : (q : Port) → IsWaiting (cell_at (slice_set cells place cell) q).state → ⊥ =
-    λ q. each-port cells p place cell at within (λ s. IsWaiting s → ⊥) q (λ e. change.rests) (λ ne w. (let b = law.waiting q w in cc)) in
-    record {
-      good = law.good;
+    change-lawful p cell.state (flat image cores old cells) (flat image cores new (slice_set cells place cell)) law (record {
+      kept = record { image = refl; cores = refl; caches = refl; tells_distances = refl; bound = refl; tells_load = refl };
+      below = below;
+      is = ap (λ (c : Cell). c.state) (cell-same cells p place cell at within);
+      ports = λ q ne. ap (λ (c : Cell). c.state) (cell-other cells p place cell at within q ne);
       legal = change.legal;
       follows = change.no_bus;
-      within = λ core le. change.others core (λ e. (let f : core ≡ core_of p = ap core_of e in absurd (omega arith))) ∙ law.within core le;
-      proper = λ q. each-port cells p place cell at within (λ s. HoldsProper image q s) q (λ e. (let P : Port → Type 0 = λ r. HoldsProper image r cell.state in subst P (sym e) change.proper)) (λ ne. law.proper q);
-      fetched = λ core. each-port cells p place cell at within (λ s. HoldsCode image s) (Fetch core) (λ e. change.code core e) (λ ne. law.fetched core);
-      served = λ core. each-port cells p place cell at within (λ s. HoldsEntry core (own_items new core) s) (Access core) (λ e. change.entry core e) (λ ne. (let S : List Entry → Type 0 = λ own. HoldsEntry core own (cell_at cells (Access core)).state in subst S (sym (change.others core ne)) (law.served core)));
+      others = change.others;
+      proper = change.proper;
+      code = change.code;
+      entry = change.entry;
       waiting = λ q w. absurd (rests q w);
       near = λ t q w. absurd (rests q w);
       unloaded = λ t free. refl;
-    }
+    })
+  where
+    rests : (q : Port) → IsWaiting (cell_at (slice_set cells place cell) q).state → ⊥
+    rests q w =
+        elim (cases_port p q) as (λ _. ⊥) [
+          | inl e ↦ (let W : Port → Type 0 = λ r. IsWaiting (cell_at (slice_set cells place cell) r).state in change.rests (subst (λ (c : Cell). IsWaiting c.state) (cell-same cells p place cell at within) (subst W e w)))
+          | inr ne ↦ (let b = law.waiting q (subst (λ (c : Cell). IsWaiting c.state) (cell-other cells p place cell at within q ne) w) in cc)
+        ]
 
 -- A call that makes no entry, and leaves its port free, asked or closed.
 pub quiet-lawful : (image : ImageValue) (cores : ℕ) (cells : List Cell) (p : Port) (place : ℕ) (cell : Cell) (items : List Item) → place ≡ place_of p → place < length cells → core_of p < cores →

@@ -1,9 +1,7 @@
 -- A caller that has a memory for itself keeps the law of a core's side: what each call leaves of the other cores, what it
 -- means to its own, and who pays for its steps.
-use Rattle.std.proofs.Common.{◌≡◌, ◌≢◌, ℕ, ◌+◌, ◌-◌, ◌*◌, ◌/◌, ◌≤◌, inl, inr, Bool, false, IsTrue, Option, Some, None, List, [], ◌∷◌, ◌++◌, append_assoc, append-nil, refl, ap, sym, ◌∙◌, subst, arith}
-use Rattle.std.specs.Prelude.{slice_index}
+use Rattle.std.proofs.Common.{◌≡◌, ◌≢◌, ℕ, ◌+◌, ◌-◌, ◌*◌, ◌≤◌, inl, inr, Bool, false, IsTrue, Option, Some, None, List, [], ◌++◌, append_assoc, append-nil, refl, ap, sym, ◌∙◌, subst, arith}
 use Rattle.std.proofs.lemmas.Bool.{cases_eq}
-use Rattle.image_file.specs.Value.{ImageValue}
 use Rattle.access_log.specs.Items.{own_items}
 use Rattle.access_log.specs.Requests.{entry_of}
 use Rattle.access_log.specs.declared.Entry.{Entry}
@@ -18,9 +16,9 @@ use Rattle.mem_port.specs.declared.port.Withdrawal.{Withdrawal}
 use Rattle.mem_port.specs.declared.port.Withdrawal.TheVariants as withdrawal
 use Rattle.mem_port.specs.declared.port.PortState.{PortState}
 use Rattle.mem_port.specs.declared.port.PortState.TheVariants.{Free, Asked, Waiting, Answered, Closed}
-use Rattle.mem_port.specs.Ports.{core_of, IsWaiting, IsUnanswered, HoldsCode, HoldsEntry, but_last, taken_of, items_of, entries_of}
+use Rattle.mem_port.specs.Ports.{core_of, IsWaiting, but_last, taken_of, items_of}
 use Rattle.mem_port.specs.Memory.{MemoryView, IsLawful, Keeps, LeavesPorts, Asks, Serves, Answers, Moves, Same, Steps, Leaves, Takes, Withdraws, steps_of_request, committed, bus_items}
-use Rattle.mem_port.specs.Side.{Served, mark, Holds, Evolves, KeepsSide, LeavesPort, SideServes, SideStays, SideSteps, SideLeaves, IsAnswer, LeavesOthers, Paid, energy, patience_of, side_of}
+use Rattle.mem_port.specs.Side.{mark, Evolves, KeepsSide, LeavesPort, SideServes, SideStays, SideSteps, LeavesOthers, Paid, energy, patience_of, side_of}
 use Rattle.mem_port.proofs.PortLaws.{cases_port, but_last-append, own-answered_other, own-answered_same, own-bus_after}
 
 -- Facts that go along an equation.
