@@ -6,7 +6,7 @@ use Rattle.asm_parse.specs.declared.statement.Part.TheVariants as parts
 use Rattle.asm_parse.specs.declared.statement.Statement.{Statement}
 use Rattle.asm_layout.specs.declared.place.Place.{Place}
 use Rattle.asm_layout.specs.Places.{code_size, data_moved, part_moved, code_behind, data_behind, part_behind, place_behind, place_moved}
-use Rattle.asm_layout.proofs.SplitLemmas.{one_more}
+use Rattle.asm_layout.proofs.SplitLaws.{one_more}
 
 pub no_code : 0 ≡ code_behind []
 unfolding code_behind
