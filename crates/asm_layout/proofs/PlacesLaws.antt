@@ -4,8 +4,9 @@ use Rattle.std.proofs.lemmas.List.Sums.{sum_by-append}
 use Rattle.asm_parse.specs.declared.statement.Part.{Part}
 use Rattle.asm_parse.specs.declared.statement.Part.TheVariants as parts
 use Rattle.asm_parse.specs.declared.statement.Statement.{Statement}
+use Rattle.asm_parse.specs.Statements.{part_moved}
 use Rattle.asm_layout.specs.declared.place.Place.{Place}
-use Rattle.asm_layout.specs.Places.{code_size, data_moved, part_moved, code_behind, data_behind, part_behind, place_behind, place_moved}
+use Rattle.asm_layout.specs.Places.{code_size, data_moved, code_behind, data_behind, part_behind, place_behind, place_moved}
 use Rattle.asm_layout.proofs.SplitLaws.{one_more}
 
 pub no_code : 0 ≡ code_behind []

@@ -4,3 +4,4 @@ pub mod ReadingLemmas
 pub mod SizeLemmas
 pub mod TablesLemmas
 pub mod WordsLemmas
+pub mod OperandsLemmas

@@ -1,5 +1,5 @@
 -- A line that writes tokens is read as these tokens.
-use Rattle.std.proofs.Common.{◌≡◌, ℕ, zero, suc, ◌+◌, ◌-◌, ◌^◌, ◌<◌, ◌≤◌, Bool, true, false, cond, not, ◌&&◌, ◌||◌, ◌==◌, nat_le, IsTrue, List, [], ◌∷◌, ◌++◌, length, map, take, drop, slice_index, Result, Ok, refl, sym, ap, ◌∙◌, append_assoc, one-add, add-one, arith}
+use Rattle.std.proofs.Common.{◌≡◌, ℕ, zero, suc, ◌+◌, ◌-◌, ◌^◌, ◌<◌, ◌≤◌, Bool, true, false, not, ◌||◌, ◌==◌, nat_le, IsTrue, List, [], ◌∷◌, ◌++◌, length, map, drop, slice_index, Ok, refl, sym, ap, ◌∙◌, append_assoc, one-add, add-one, arith}
 use Rattle.std.specs.Prelude.{codes, nat_eq, nat_lt}
 use Rattle.std.specs.Fmt.{decimal}
 use Rattle.std.specs.List.{list_all, take_while, starts_with}
@@ -9,15 +9,13 @@ use Rattle.std.proofs.Math.Seq.{drop-append_seam}
 use Rattle.std.proofs.lemmas.Bool.{and_parts}
 use Rattle.std.proofs.lemmas.Bool.Decides.{nat_tests}
 use Rattle.std.proofs.lemmas.Fmt.{decimal_is_IsNumeral}
+use Rattle.std.proofs.lemmas.List.{append-nil}
 use Rattle.std.proofs.lemmas.List.Folds.{list_all-append}
-use Rattle.asm_token.specs.declared.fault.AsmCause.{AsmCause}
-use Rattle.asm_token.specs.declared.number.Number.{Number}
 use Rattle.asm_token.specs.declared.token.Token.{Token}
 use Rattle.asm_token.specs.declared.token.Token.TheVariants as tokens
 use Rattle.asm_token.specs.Bytes.{is_one_of, is_blank, begins_name, is_name_byte, cuts_number, is_before_comment}
-use Rattle.asm_token.specs.Faults.{◌>>=◌}
-use Rattle.asm_token.specs.Tokens.{is_cut_wrongly, digits_at, unsigned_at, positive_at, negative_at, name_at, register_at, token_at, tokens_from, without_comment, tokens_of}
-use Rattle.asm_token.specs.Printing.{number_text, token_text, is_name, can_be_written, ends_before, spaced_text, AreApart, IsComment, Writes}
+use Rattle.asm_token.specs.Tokens.{digits_at, unsigned_at, positive_at, negative_at, name_at, register_at, token_at, tokens_from, without_comment, tokens_of}
+use Rattle.asm_token.specs.Printing.{number_text, token_text, is_name, can_be_written, ends_before, spaced_text, AreApart, IsComment, Writes, with_blank, printed_line}
 use Rattle.asm_token.proofs.TokensLemmas.{tokens_from-drop, blank_goes_on}
 
 -- no byte is there, or it fails a test
@@ -34,7 +32,7 @@ front_taken p (x ∷ xs) ys all stops =
     rw (each.0, one-add) (ap (λ (zs : List ℕ). x ∷ zs) (front_taken p xs ys each.1 stops))
 
 -- a test of bytes that another implies
-all_pass : (p q : ℕ → Bool) (xs : List ℕ) → ((b : ℕ) → p b ≡ true → q b ≡ true) → list_all p xs ≡ true → list_all q xs ≡ true
+pub all_pass : (p q : ℕ → Bool) (xs : List ℕ) → ((b : ℕ) → p b ≡ true → q b ≡ true) → list_all p xs ≡ true → list_all q xs ≡ true
 all_pass p q [] implied all = refl
 all_pass p q (x ∷ xs) implied all =
     let each = and_parts (p x) (list_all p xs) all in
@@ -58,14 +56,24 @@ digit_within b lt = grind (arith, nat_tests)
 digit_is : (b : ℕ) → 48 ≤ b → b ≤ 57 → (is_ascii_digit b ≡ true) × (begins_name b ≡ false) × (is_one_of (codes "$") b ≡ false) × (is_blank b ≡ false)
 digit_is b low high = (grind (arith, nat_tests), grind (arith, nat_tests), grind (arith, nat_tests), grind (arith, nat_tests))
 
-name_not_comment : (b : ℕ) → is_name_byte b ≡ true → is_before_comment b ≡ true
-name_not_comment b name = grind (arith, nat_tests)
+-- the bytes that tokens and blanks are written by
+abbrev pub is_text_byte : ℕ → Bool
+is_text_byte b = is_name_byte b || is_one_of (codes " \t\r$-,:()") b
 
-word_not_comment : (b : ℕ) → is_ascii_alphanumeric b ≡ true → is_before_comment b ≡ true
-word_not_comment b word = grind (arith, nat_tests)
+name_in_text : (b : ℕ) → is_name_byte b ≡ true → is_text_byte b ≡ true
+name_in_text b name = rw name refl
 
-blank_not_comment : (b : ℕ) → is_blank b ≡ true → is_before_comment b ≡ true
-blank_not_comment b blank = grind (arith, nat_tests)
+word_in_text : (b : ℕ) → is_ascii_alphanumeric b ≡ true → is_text_byte b ≡ true
+word_in_text b word = grind (arith, nat_tests)
+
+digit_in_text : (b : ℕ) → digit_value b < 10 → is_text_byte b ≡ true
+digit_in_text b lt = let within = digit_within b lt in grind (arith, nat_tests)
+
+blank_in_text : (b : ℕ) → is_blank b ≡ true → is_text_byte b ≡ true
+blank_in_text b blank = grind (arith, nat_tests)
+
+text_before_comment : (b : ℕ) → is_text_byte b ≡ true → is_before_comment b ≡ true
+text_before_comment b text = grind (arith, nat_tests)
 
 -- What follows a token.
 
@@ -146,9 +154,6 @@ digits_pass p (d ∷ ds) implied are = rw (implied d are.0) (digits_pass p ds im
 
 is_a_digit : (b : ℕ) → digit_value b < 10 → is_digit b 10 ≡ true
 is_a_digit b lt = grind (arith, nat_tests)
-
-digit_not_comment : (b : ℕ) → digit_value b < 10 → is_before_comment b ≡ true
-digit_not_comment b lt = let within = digit_within b lt in grind (arith, nat_tests)
 
 digit_no_letter : (b : ℕ) → digit_value b < 10 → nat_eq 120 b ≡ false
 digit_no_letter b lt = let within = digit_within b lt in grind (arith, nat_tests)
@@ -264,29 +269,29 @@ spaced_read [] apart = refl
 spaced_read (t ∷ ts) apart =
     token_read t.0 (t.1 ++ spaced_text ts) (map (λ (u : Token × List ℕ). u.0) ts) apart.0 apart.2 (blanks_passed t.1 (spaced_text ts) apart.1 ∙ spaced_read ts apart.3)
 
--- Comments.
+-- The bytes of a line.
 
-number_clean : (negative : Bool) (n : ℕ) → IsTrue (can_be_written (tokens.Number (record { negative = negative; magnitude = n })))
-    → list_all is_before_comment (number_text (record { negative = negative; magnitude = n })) ≡ true
-number_clean false n written = digits_pass is_before_comment (decimal n) digit_not_comment (decimal_is_IsNumeral n (grind (arith, nat_tests))).0.1
-number_clean true n written = digits_pass is_before_comment (decimal n) digit_not_comment (decimal_is_IsNumeral n (grind (arith, nat_tests))).0.1
+number_bytes : (negative : Bool) (n : ℕ) → IsTrue (can_be_written (tokens.Number (record { negative = negative; magnitude = n })))
+    → list_all is_text_byte (number_text (record { negative = negative; magnitude = n })) ≡ true
+number_bytes false n written = digits_pass is_text_byte (decimal n) digit_in_text (decimal_is_IsNumeral n (grind (arith, nat_tests))).0.1
+number_bytes true n written = digits_pass is_text_byte (decimal n) digit_in_text (decimal_is_IsNumeral n (grind (arith, nat_tests))).0.1
 
-token_clean : (t : Token) → IsTrue (can_be_written t) → list_all is_before_comment (token_text t) ≡ true
-token_clean (tokens.Name name) written = all_pass is_name_byte is_before_comment name name_not_comment (name_bytes name written)
-token_clean (tokens.Register name) written =
+token_bytes : (t : Token) → IsTrue (can_be_written t) → list_all is_text_byte (token_text t) ≡ true
+token_bytes (tokens.Name name) written = all_pass is_name_byte is_text_byte name name_in_text (name_bytes name written)
+token_bytes (tokens.Register name) written =
     let each = and_parts (not (length name == 0)) (list_all is_ascii_alphanumeric name) written in
-    all_pass is_ascii_alphanumeric is_before_comment name word_not_comment each.1
-token_clean (tokens.Number n) written = number_clean n.negative n.magnitude written
-token_clean mark written = refl
+    all_pass is_ascii_alphanumeric is_text_byte name word_in_text each.1
+token_bytes (tokens.Number n) written = number_bytes n.negative n.magnitude written
+token_bytes mark written = refl
 
-both_clean : (xs ys : List ℕ) → list_all is_before_comment xs ≡ true → list_all is_before_comment ys ≡ true → list_all is_before_comment (xs ++ ys) ≡ true
-both_clean xs ys first second = rw (list_all-append is_before_comment xs ys, first, second) refl
+both_pass : (p : ℕ → Bool) (xs ys : List ℕ) → list_all p xs ≡ true → list_all p ys ≡ true → list_all p (xs ++ ys) ≡ true
+both_pass p xs ys first second = rw (list_all-append p xs ys, first, second) refl
 
-spaced_clean : (ts : List (Token × List ℕ)) → AreApart ts → list_all is_before_comment (spaced_text ts) ≡ true
-spaced_clean [] apart = refl
-spaced_clean (t ∷ ts) apart =
-    both_clean (token_text t.0) (t.1 ++ spaced_text ts) (token_clean t.0 apart.0)
-    (both_clean t.1 (spaced_text ts) (all_pass is_blank is_before_comment t.1 blank_not_comment apart.1) (spaced_clean ts apart.3))
+spaced_bytes : (ts : List (Token × List ℕ)) → AreApart ts → list_all is_text_byte (spaced_text ts) ≡ true
+spaced_bytes [] apart = refl
+spaced_bytes (t ∷ ts) apart =
+    both_pass is_text_byte (token_text t.0) (t.1 ++ spaced_text ts) (token_bytes t.0 apart.0)
+    (both_pass is_text_byte t.1 (spaced_text ts) (all_pass is_blank is_text_byte t.1 blank_in_text apart.1) (spaced_bytes ts apart.3))
 
 comment_stops : (comment : List ℕ) → IsComment comment → Stops is_before_comment comment
 comment_stops [] is = tt
@@ -295,7 +300,44 @@ comment_stops (b ∷ rest) is = rw is refl
 pub tokens_read : (line : List ℕ) (ts : List Token) → Writes line ts → tokens_of line ≡ Ok ts
 tokens_read line ts w =
     let text = spaced_text w.spaced in
-    let clean = both_clean w.blanks text (all_pass is_blank is_before_comment w.blanks blank_not_comment w.front) (spaced_clean w.spaced w.apart) in
+    let bytes = both_pass is_text_byte w.blanks text (all_pass is_blank is_text_byte w.blanks blank_in_text w.front) (spaced_bytes w.spaced w.apart) in
+    let before = all_pass is_text_byte is_before_comment (w.blanks ++ text) text_before_comment bytes in
     let same : line ≡ (w.blanks ++ text) ++ w.comment = w.line_is ∙ sym (append_assoc w.blanks text w.comment) in
-    let code : without_comment line ≡ w.blanks ++ text = ap without_comment same ∙ front_taken is_before_comment (w.blanks ++ text) w.comment clean (comment_stops w.comment w.behind) in
+    let code : without_comment line ≡ w.blanks ++ text = ap without_comment same ∙ front_taken is_before_comment (w.blanks ++ text) w.comment before (comment_stops w.comment w.behind) in
     ap (tokens_from 0) code ∙ blanks_passed w.blanks text w.front ∙ spaced_read w.spaced w.apart ∙ ap Ok w.tokens_are
+
+-- Lines that are printed.
+
+blank_behind : (t : Token) → IsTrue (ends_before t 32)
+blank_behind (tokens.Name name) = refl
+blank_behind (tokens.Register name) = refl
+blank_behind (tokens.Number n) = refl
+blank_behind mark = refl
+
+printed_apart : (ts : List Token) → IsTrue (list_all can_be_written ts) → AreApart (map with_blank ts)
+printed_apart [] written = tt
+printed_apart (t ∷ ts) written =
+    let each = and_parts (can_be_written t) (list_all can_be_written ts) written in
+    (each.0, refl, blank_behind t, printed_apart ts each.1)
+
+printed_tokens : (ts : List Token) → map (λ (t : Token × List ℕ). t.0) (map with_blank ts) ≡ ts
+printed_tokens [] = refl
+printed_tokens (t ∷ ts) = ap (λ (us : List Token). t ∷ us) (printed_tokens ts)
+
+pub printed_writes : (ts : List Token) → IsTrue (list_all can_be_written ts) → Writes (printed_line ts) ts
+printed_writes ts written = record {
+  blanks = [];
+  spaced = map with_blank ts;
+  comment = [];
+  line_is = sym (append-nil (printed_line ts));
+  tokens_are = printed_tokens ts;
+  front = refl;
+  apart = printed_apart ts written;
+  behind = tt;
+}
+
+pub printed_bytes : (ts : List Token) → IsTrue (list_all can_be_written ts) → list_all is_text_byte (printed_line ts) ≡ true
+printed_bytes ts written = spaced_bytes (map with_blank ts) (printed_apart ts written)
+
+pub printed_read : (ts : List Token) → IsTrue (list_all can_be_written ts) → tokens_of (printed_line ts) ≡ Ok ts
+printed_read ts written = tokens_read (printed_line ts) ts (printed_writes ts written)

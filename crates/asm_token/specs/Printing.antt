@@ -72,3 +72,14 @@ pub record Writes (line : List ℕ) (ts : List Token) : Type 0 where
 -- The tokens of a line that writes tokens are these tokens.
 abbrev pub WrittenTokensAreRead : Type 0
 WrittenTokensAreRead = (line : List ℕ) (ts : List Token) → Writes line ts → tokens_of line ≡ Ok ts
+
+-- A line that is printed has one blank behind each token.
+abbrev pub with_blank : Token → Token × List ℕ
+with_blank t = (t, codes " ")
+
+abbrev pub printed_line : List Token → List ℕ
+printed_line ts = spaced_text (map with_blank ts)
+
+-- The tokens of a line that is printed are those that were printed.
+abbrev pub PrintedTokensAreRead : Type 0
+PrintedTokensAreRead = (ts : List Token) → IsTrue (list_all can_be_written ts) → tokens_of (printed_line ts) ≡ Ok ts
