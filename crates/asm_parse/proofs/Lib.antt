@@ -5,3 +5,5 @@ pub mod SizeLemmas
 pub mod TablesLemmas
 pub mod WordsLemmas
 pub mod OperandsLemmas
+pub mod FormsLemmas
+pub mod PrintingLemmas

@@ -20,7 +20,8 @@ use Rattle.asm_parse.specs.declared.operands.Operands.{Operands}
 use Rattle.asm_parse.specs.declared.statement.Value.{Value}
 use Rattle.asm_parse.specs.declared.statement.Value.TheVariants as values
 use Rattle.asm_parse.specs.Bounds.{is_within}
-use Rattle.asm_parse.specs.Forms.{signed, unsigned, word, amount, target}
+use Rattle.asm_parse.specs.Forms as forms
+use Rattle.asm_parse.specs.Forms.{signed, unsigned, word, amount, target, space}
 use Rattle.asm_parse.specs.Operands.{register_in, address_in, link_in, operand_in, with_operand, more_operands_in, no_operands, operands_in}
 use Rattle.asm_parse.specs.Registers.{register_of}
 use Rattle.asm_parse.specs.Statements.{lower_half}
@@ -82,6 +83,12 @@ is_word n lt = grind (arith, nat_tests)
 
 pub is_target : (index : ℕ) → index < 2 ^ 26 → is_within target (record { negative = false; magnitude = 4 * index }) ≡ true
 is_target index lt = grind (arith, nat_tests)
+
+pub is_address : (n : ℕ) → n < 2 ^ 32 → n % 4 ≡ 0 → is_within forms.address (record { negative = false; magnitude = n }) ≡ true
+is_address n lt at = grind (arith, nat_tests)
+
+pub is_space : (n : ℕ) → n ≤ 2 ^ 24 → n % 4 ≡ 0 → is_within space (record { negative = false; magnitude = n }) ≡ true
+is_space n few at = grind (arith, nat_tests)
 
 -- sixteen bits are within the bounds of a signed number, and are the lower half of its word
 signed_by : (imm : ℕ) (low : Bool) → nat_lt imm 32768 ≡ low → imm < 2 ^ 16 → (is_within signed (signed_of imm) ≡ true) × (lower_half (word_of (signed_of imm)) ≡ imm)
