@@ -126,7 +126,7 @@ value_behind_two a b x y kind t value first second third =
     (register_read a x _ first) (register_read b y _ second) third
 
 -- a register and a value
-value_behind : (a : Slot) (x : ℕ) (kind : Kind) (t : Token) (value : Value) → x < 32 → operand_in kind (one t) ≡ Ok (said.Value value, [])
+pub value_behind : (a : Slot) (x : ℕ) (kind : Kind) (t : Token) (value : Value) → x < 32 → operand_in kind (one t) ≡ Ok (said.Value value, [])
     → operands_in (kinds.Register a ∷ kind ∷ []) (separated (one (register x) ∷ one t ∷ []))
     ≡ Ok (with_operand (said.Value value) (with_register a x no_operands))
 value_behind a x kind t value first second =

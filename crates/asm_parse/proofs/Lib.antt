@@ -7,3 +7,4 @@ pub mod WordsLemmas
 pub mod OperandsLemmas
 pub mod FormsLemmas
 pub mod PrintingLemmas
+pub mod MacrosLemmas

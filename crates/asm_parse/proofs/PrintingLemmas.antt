@@ -121,7 +121,7 @@ body_reads part (Load x value) proper fits stands =
 
 -- Labels in front.
 
-labels_first : (part behind : Part) (labels : List (List ℕ)) (ts : List Token) (bodies : List Body) → Reads part ts bodies behind
+pub labels_first : (part behind : Part) (labels : List (List ℕ)) (ts : List Token) (bodies : List Body) → Reads part ts bodies behind
     → Reads part (label_tokens labels ++ ts) (map Label labels ++ bodies) behind
 labels_first part behind [] ts bodies read = read
 labels_first part behind (label ∷ labels) ts bodies read =

@@ -1,6 +1,7 @@
 pub mod Bounds
 pub mod Forms
 pub mod Lines
+pub mod Macros
 pub mod Operands
 pub mod Printing
 pub mod Registers

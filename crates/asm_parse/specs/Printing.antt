@@ -21,6 +21,7 @@ use Rattle.asm_parse.specs.declared.statement.Body.{Body}
 use Rattle.asm_parse.specs.declared.statement.Body.TheVariants.{Label, Text, Data, DataAt, Word, Space, Plain, BranchTo, JumpTo, Load}
 use Rattle.asm_parse.specs.declared.statement.Part.{Part}
 use Rattle.asm_parse.specs.declared.statement.Part.TheVariants as parts
+use Rattle.asm_parse.specs.declared.statement.Statement.{Statement}
 use Rattle.asm_parse.specs.declared.statement.Value.{Value}
 use Rattle.asm_parse.specs.declared.statement.Value.TheVariants as values
 use Rattle.asm_parse.specs.Forms.{is_part}
@@ -197,3 +198,36 @@ WrittenStatementsAreRead =
 abbrev pub WrittenLabelsAreRead : Type 0
 WrittenLabelsAreRead =
     (part : Part) (labels : List (List ℕ)) (line : List ℕ) → Writes line (label_tokens labels) → line_of part line ≡ Ok (map Label labels, part)
+
+-- whether the labels that a statement names are names
+abbrev pub value_named : Value → Bool
+value_named (values.Number n) = true
+value_named (values.Of label) = is_name label
+
+abbrev pub body_named : Body → Bool
+body_named (Label label) = is_name label
+body_named (Word value) = value_named value
+body_named (BranchTo instr label) = is_name label
+body_named (JumpTo link label) = is_name label
+body_named (Load rt value) = value_named value
+body_named other = true
+
+-- Statements that can be printed behind a part.
+abbrev pub AreWritable : Part → List Body → Type 0
+AreWritable part [] = Unit {0}
+AreWritable part (body ∷ bodies) =
+    IsProperBody body × HasNumbers body × IsTrue (body_named body) × IsTrue (body_stands body part) × AreWritable (part_moved part body) bodies
+
+-- A text of a line for each statement.
+abbrev pub printed_text : List Body → List ℕ
+printed_text [] = []
+printed_text (body ∷ bodies) = printed_line (body_tokens body) ++ 10 ∷ printed_text bodies
+
+-- statements on lines of their own, from a line on
+abbrev pub on_lines : ℕ → List Body → List Statement
+on_lines line [] = []
+on_lines line (body ∷ bodies) = on_line line body ∷ on_lines (line + 1) bodies
+
+-- The statements of a text that is printed are those that were printed, each on its own line.
+abbrev pub PrintedStatementsAreRead : Type 0
+PrintedStatementsAreRead = (bodies : List Body) → AreWritable parts.Text bodies → statements_of (printed_text bodies) ≡ Ok (on_lines 1 bodies)

@@ -1,5 +1,6 @@
 //! Laws of the assembler's lines, apart from its reader. Each is the clause of a function that does nothing.
 ghost use Rattle.asm_parse.specs.Printing.{WrittenStatementsAreRead, WrittenLabelsAreRead};
+ghost use Rattle.asm_parse.specs.Macros.{WrittenMacrosAreRead};
 
 /// A line that writes labels and a statement is read as these: each instruction by its mnemonic and its operands in the
 /// order of the MIPS32 manuals, and each directive, whatever blanks stand between its tokens and whatever comment behind.
@@ -10,4 +11,10 @@ pub fn written_statements_are_read()
 /// A line that writes labels alone, or nothing, is read as these labels.
 pub fn written_labels_are_read()
     ensures law { WrittenLabelsAreRead }
+{}
+
+/// A line that writes labels and a macro, a list of words, or an instruction with an operand left out, is read as these
+/// labels and what that stands for.
+pub fn written_macros_are_read()
+    ensures law { WrittenMacrosAreRead }
 {}
