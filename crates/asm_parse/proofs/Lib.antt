@@ -8,3 +8,4 @@ pub mod OperandsLemmas
 pub mod FormsLemmas
 pub mod PrintingLemmas
 pub mod MacrosLemmas
+pub mod SourceLemmas

@@ -1,5 +1,5 @@
 //! Laws of the assembler's lines, apart from its reader. Each is the clause of a function that does nothing.
-ghost use Rattle.asm_parse.specs.Printing.{WrittenStatementsAreRead, WrittenLabelsAreRead};
+ghost use Rattle.asm_parse.specs.Printing.{WrittenStatementsAreRead, WrittenLabelsAreRead, PrintedStatementsAreRead};
 ghost use Rattle.asm_parse.specs.Macros.{WrittenMacrosAreRead};
 
 /// A line that writes labels and a statement is read as these: each instruction by its mnemonic and its operands in the
@@ -17,4 +17,9 @@ pub fn written_labels_are_read()
 /// labels and what that stands for.
 pub fn written_macros_are_read()
     ensures law { WrittenMacrosAreRead }
+{}
+
+/// The statements of a text that is printed, a line for each, are those that were printed.
+pub fn printed_statements_are_read()
+    ensures law { PrintedStatementsAreRead }
 {}
