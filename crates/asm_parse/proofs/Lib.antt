@@ -9,3 +9,4 @@ pub mod FormsLemmas
 pub mod PrintingLemmas
 pub mod MacrosLemmas
 pub mod SourceLemmas
+pub mod WorkedLemmas

@@ -7,3 +7,4 @@ pub mod Printing
 pub mod Registers
 pub mod Statements
 pub mod Tables
+pub mod Worked
