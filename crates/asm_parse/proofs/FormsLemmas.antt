@@ -1,22 +1,14 @@
 -- Statements that are written are read, form by form.
-use Rattle.std.proofs.Common.{◌≡◌, ℕ, ◌-◌, ◌*◌, ◌/◌, ◌%◌, ◌^◌, ◌<◌, ◌≤◌, Bool, true, false, cond, List, [], ◌∷◌, ◌++◌, map, Option, Some, Result, Ok, Err, refl, sym, ap, ◌∙◌, arith}
-use Rattle.std.specs.Prelude.{codes}
-use Rattle.std.specs.Option.{ok_or}
-use Rattle.std.proofs.lemmas.Bool.Decides.{nat_tests}
-use Rattle.mips_isa.specs.Words.{IsProper}
-use Rattle.mips_isa.specs.declared.Instr.{Instr}
+use Rattle.std.proofs.Common.{◌≡◌, ℕ, ◌%◌, ◌^◌, ◌<◌, ◌≤◌, Bool, true, false, List, [], ◌∷◌, ◌++◌, map, Some, Result, Ok, refl, arith}
 use Rattle.mips_isa.specs.declared.Instr.TheVariants as instrs
 use Rattle.mips_isa.specs.declared.ShiftOp.{ShiftOp}
 use Rattle.mips_isa.specs.declared.ShiftOp.TheVariants.{Sll, Srl, Sra}
 use Rattle.mips_isa.specs.declared.AluOp.{AluOp}
 use Rattle.mips_isa.specs.declared.AluOp.TheVariants.{Add, Addu, Sub, Subu, And, Or, Xor, Nor, Slt, Sltu}
 use Rattle.mips_isa.specs.declared.ImmOp.{ImmOp}
-use Rattle.mips_isa.specs.declared.ImmOp.TheVariants.{Addi, Addiu, Slti, Sltiu, Andi, Ori, Xori}
 use Rattle.mips_isa.specs.declared.ZeroOp.{ZeroOp}
 use Rattle.mips_isa.specs.declared.ZeroOp.TheVariants.{Bltz, Bgez, Blez, Bgtz}
 use Rattle.asm_token.specs.declared.fault.AsmCause.{AsmCause}
-use Rattle.asm_token.specs.declared.fault.AsmCause.TheVariants.{UnknownName}
-use Rattle.asm_token.specs.declared.number.Number.{Number}
 use Rattle.asm_token.specs.declared.token.Token.{Token}
 use Rattle.asm_token.specs.declared.token.Token.TheVariants as tokens
 use Rattle.asm_token.specs.Faults.{◌>>=◌}
@@ -27,23 +19,19 @@ use Rattle.asm_parse.specs.declared.forms.Slot.{Slot}
 use Rattle.asm_parse.specs.declared.forms.Slot.TheVariants.{Rd, Rs, Rt}
 use Rattle.asm_parse.specs.declared.forms.Kind.{Kind}
 use Rattle.asm_parse.specs.declared.forms.Kind.TheVariants as kinds
-use Rattle.asm_parse.specs.declared.operands.Operand.{Operand}
 use Rattle.asm_parse.specs.declared.operands.Operand.TheVariants as said
-use Rattle.asm_parse.specs.declared.operands.Operands.{Operands}
 use Rattle.asm_parse.specs.declared.statement.Body.{Body}
-use Rattle.asm_parse.specs.declared.statement.Body.TheVariants.{Label, Text, Data, DataAt, Word, Space, Plain, BranchTo, JumpTo, Load}
+use Rattle.asm_parse.specs.declared.statement.Body.TheVariants.{Label, DataAt, Word, Space, Plain, Load}
 use Rattle.asm_parse.specs.declared.statement.Part.{Part}
-use Rattle.asm_parse.specs.declared.statement.Part.TheVariants as parts
 use Rattle.asm_parse.specs.declared.statement.Value.{Value}
 use Rattle.asm_parse.specs.declared.statement.Value.TheVariants as values
-use Rattle.asm_parse.specs.Bounds.{is_within}
-use Rattle.asm_parse.specs.Forms.{kinds_of, rd, rs, rt, amount, signed, unsigned, word, target, space, address, form_of, is_part, stands_in, part_behind}
+use Rattle.asm_parse.specs.Forms.{rs, rt, amount, signed, unsigned, word, target, form_of, stands_in, part_behind}
 use Rattle.asm_parse.specs.Lines.{labels_in, behind_labels, form_in, named_in}
 use Rattle.asm_parse.specs.Operands.{operand_in, with_register, with_operand, no_operands, operands_in}
-use Rattle.asm_parse.specs.Statements.{number_of, lower_half, upper_half, branch, jump, bodies_of, more_words_in, words_in, statement_in, part_moved, IsBranch, IsProperBody}
+use Rattle.asm_parse.specs.Statements.{number_of, lower_half, branch, jump, bodies_of, more_words_in, words_in, statement_in}
 use Rattle.asm_parse.specs.Printing as printing
 use Rattle.asm_parse.specs.Printing.{shift_name, shift_by_name, alu_name, imm_name, branch_name, zero_name, jump_name, register, number, signed_of, signed_number, immediate, value_token, one, separated, named, branch_tokens, instr_tokens, body_tokens, branch_imm, IsWord, HasNumbers, body_stands, label_tokens}
-use Rattle.asm_parse.proofs.OperandsLemmas.{register_read, link_read, number_read, place_read, label_read, is_amount, is_unsigned, is_word, is_target, is_address, is_space, is_signed, signed_back, address_read, one_read, two_read, three_read}
+use Rattle.asm_parse.proofs.OperandsLemmas.{register_read, link_read, number_read, place_read, label_read, is_amount, is_unsigned, is_word, is_address, is_space, is_signed, signed_back, address_read, one_read, two_read, three_read}
 
 -- The forms of names.
 

@@ -1,24 +1,18 @@
 -- Lines that write macros are read as what these stand for.
-use Rattle.std.proofs.Common.{◌≡◌, ℕ, ◌^◌, ◌<◌, Bool, true, false, List, [], ◌∷◌, ◌++◌, map, Result, Ok, Some, refl, sym, ap, ◌∙◌, arith}
+use Rattle.std.proofs.Common.{◌≡◌, ℕ, ◌^◌, ◌<◌, true, false, List, [], ◌∷◌, ◌++◌, map, Ok, refl}
 use Rattle.std.specs.Prelude.{IsTrue, codes}
 use Rattle.std.specs.List.{AllByRecursion}
-use Rattle.std.proofs.lemmas.Bool.Decides.{nat_tests}
 use Rattle.mips_isa.specs.declared.Instr.TheVariants as instrs
-use Rattle.mips_isa.specs.declared.ShiftOp.TheVariants.{Sll}
 use Rattle.mips_isa.specs.declared.AluOp.TheVariants.{Addu}
 use Rattle.mips_isa.specs.declared.ImmOp.TheVariants.{Ori}
-use Rattle.asm_token.specs.declared.fault.AsmCause.{AsmCause}
 use Rattle.asm_token.specs.declared.number.Number.{Number}
-use Rattle.asm_token.specs.declared.token.Token.{Token}
 use Rattle.asm_token.specs.declared.token.Token.TheVariants as tokens
-use Rattle.asm_token.specs.Faults.{◌>>=◌}
 use Rattle.asm_token.specs.Numbers.{word_of}
 use Rattle.asm_token.specs.Printing.{can_be_written, Writes}
 use Rattle.asm_parse.specs.declared.forms.Form.TheVariants as forms
 use Rattle.asm_parse.specs.declared.forms.Slot.TheVariants.{Rd, Rs, Rt}
 use Rattle.asm_parse.specs.declared.forms.Kind.TheVariants as kinds
 use Rattle.asm_parse.specs.declared.operands.Operand.TheVariants as said
-use Rattle.asm_parse.specs.declared.statement.Body.{Body}
 use Rattle.asm_parse.specs.declared.statement.Body.TheVariants.{Label, Word, Plain, BranchTo}
 use Rattle.asm_parse.specs.declared.statement.Part.{Part}
 use Rattle.asm_parse.specs.declared.statement.Value.{Value}
@@ -26,9 +20,9 @@ use Rattle.asm_parse.specs.declared.statement.Value.TheVariants as values
 use Rattle.asm_parse.specs.Bounds.{is_within}
 use Rattle.asm_parse.specs.Forms.{rd, rs, rt, signed, word, form_of}
 use Rattle.asm_parse.specs.Lines.{labels_in, behind_labels, line_of}
-use Rattle.asm_parse.specs.Operands.{value_of, operand_in, with_register, with_operand, no_operands, more_operands_in, operands_in}
+use Rattle.asm_parse.specs.Operands.{value_of, operand_in, more_operands_in, operands_in}
 use Rattle.asm_parse.specs.Statements.{upper_half, lower_half, bodies_of, more_words_in, words_in, statement_in}
-use Rattle.asm_parse.specs.Printing.{register, signed_of, signed_number, value_token, one, separated, named, label_tokens, IsWord}
+use Rattle.asm_parse.specs.Printing.{register, signed_of, signed_number, value_token, one, separated, label_tokens, IsWord}
 use Rattle.asm_parse.specs.Macros.{Macro, Nop, Move, Branch, BranchBy, Li, Lw, Sw, JumpLink, Words, Globl, bare_address, values_tokens, macro_tokens, macro_bodies, IsMacro, macro_stands}
 use Rattle.asm_parse.proofs.OperandsLemmas.{register_read, lone_link_read, lone_address_read, number_read, place_read, label_read, is_word, is_signed, signed_back, one_read, two_read}
 use Rattle.asm_parse.proofs.FormsLemmas.{Reads, form_reads, value_behind}

@@ -1,14 +1,12 @@
 -- Operands that are written are read.
-use Rattle.std.proofs.Common.{◌≡◌, ℕ, ◌+◌, ◌-◌, ◌*◌, ◌/◌, ◌%◌, ◌^◌, ◌<◌, ◌≤◌, Bool, true, false, ◌==◌, cond, List, [], ◌∷◌, ◌++◌, Option, Some, None, Result, Ok, refl, sym, ap, ◌∙◌, arith}
+use Rattle.std.proofs.Common.{◌≡◌, ℕ, ◌*◌, ◌%◌, ◌^◌, ◌<◌, ◌≤◌, Bool, true, false, ◌==◌, List, [], ◌∷◌, Option, Some, None, Ok, refl, ap, arith}
 use Rattle.std.specs.Prelude.{nat_lt}
 use Rattle.std.specs.Fmt.{decimal, digits}
 use Rattle.std.proofs.lemmas.Bool.{agree_below, agree_below_at, eqb-true}
 use Rattle.std.proofs.lemmas.Bool.Decides.{nat_tests}
-use Rattle.asm_token.specs.declared.fault.AsmCause.{AsmCause}
 use Rattle.asm_token.specs.declared.number.Number.{Number}
 use Rattle.asm_token.specs.declared.token.Token.{Token}
 use Rattle.asm_token.specs.declared.token.Token.TheVariants as tokens
-use Rattle.asm_token.specs.Faults.{◌>>=◌}
 use Rattle.asm_token.specs.Numbers.{word_of}
 use Rattle.asm_parse.specs.declared.bounds.Bounds.{Bounds}
 use Rattle.asm_parse.specs.declared.forms.Slot.{Slot}
@@ -16,16 +14,14 @@ use Rattle.asm_parse.specs.declared.forms.Kind.{Kind}
 use Rattle.asm_parse.specs.declared.forms.Kind.TheVariants as kinds
 use Rattle.asm_parse.specs.declared.operands.Operand.{Operand}
 use Rattle.asm_parse.specs.declared.operands.Operand.TheVariants as said
-use Rattle.asm_parse.specs.declared.operands.Operands.{Operands}
-use Rattle.asm_parse.specs.declared.statement.Value.{Value}
 use Rattle.asm_parse.specs.declared.statement.Value.TheVariants as values
 use Rattle.asm_parse.specs.Bounds.{is_within}
 use Rattle.asm_parse.specs.Forms as forms
 use Rattle.asm_parse.specs.Forms.{signed, unsigned, word, amount, target, space}
-use Rattle.asm_parse.specs.Operands.{register_in, address_in, link_in, operand_in, with_operand, more_operands_in, no_operands, operands_in}
+use Rattle.asm_parse.specs.Operands.{address_in, link_in, operand_in, with_operand, more_operands_in, no_operands, operands_in}
 use Rattle.asm_parse.specs.Registers.{register_of}
 use Rattle.asm_parse.specs.Statements.{lower_half}
-use Rattle.asm_parse.specs.Printing.{register, number, signed_of, signed_number, address}
+use Rattle.asm_parse.specs.Printing.{register, signed_of, address}
 
 -- Registers.
 

@@ -1,5 +1,5 @@
 -- Lines that write labels and a statement are read as these.
-use Rattle.std.proofs.Common.{◌≡◌, ℕ, ◌*◌, ◌/◌, ◌%◌, ◌^◌, ◌<◌, ◌≤◌, Bool, true, false, List, [], ◌∷◌, ◌++◌, map, Result, Ok, Err, Some, refl, sym, ap, ◌∙◌, arith}
+use Rattle.std.proofs.Common.{◌≡◌, ℕ, ◌*◌, ◌/◌, ◌%◌, ◌^◌, ◌<◌, Bool, true, List, [], ◌∷◌, ◌++◌, map, Result, Ok, Err, refl, sym, ap, ◌∙◌, arith}
 use Rattle.std.specs.Prelude.{IsTrue, codes}
 use Rattle.std.proofs.lemmas.List.{append-nil}
 use Rattle.mips_isa.specs.Words.{IsProper}
@@ -10,11 +10,9 @@ use Rattle.mips_isa.specs.declared.ImmOp.TheVariants.{Addi, Addiu, Slti, Sltiu, 
 use Rattle.asm_token.specs.declared.fault.AsmCause.{AsmCause}
 use Rattle.asm_token.specs.declared.token.Token.{Token}
 use Rattle.asm_token.specs.declared.token.Token.TheVariants as tokens
-use Rattle.asm_token.specs.Faults.{◌>>=◌}
 use Rattle.asm_token.specs.Numbers.{word_of}
 use Rattle.asm_token.specs.Printing.{Writes}
 use Rattle.asm_token.proofs.PrintingLaws.{tokens_read}
-use Rattle.asm_parse.specs.declared.forms.Form.{Form}
 use Rattle.asm_parse.specs.declared.forms.Form.TheVariants as forms
 use Rattle.asm_parse.specs.declared.statement.Body.{Body}
 use Rattle.asm_parse.specs.declared.statement.Body.TheVariants.{Label, Text, Data, DataAt, Word, Space, Plain, BranchTo, JumpTo, Load}
@@ -22,11 +20,11 @@ use Rattle.asm_parse.specs.declared.statement.Part.{Part}
 use Rattle.asm_parse.specs.declared.statement.Part.TheVariants as parts
 use Rattle.asm_parse.specs.declared.statement.Value.{Value}
 use Rattle.asm_parse.specs.declared.statement.Value.TheVariants as values
-use Rattle.asm_parse.specs.Forms.{signed, target, form_of, is_part, stands_in, part_behind}
+use Rattle.asm_parse.specs.Forms.{signed, target, form_of, is_part}
 use Rattle.asm_parse.specs.Lines.{labels_in, behind_labels, named_in, line_of}
 use Rattle.asm_parse.specs.Operands.{operands_in}
-use Rattle.asm_parse.specs.Statements.{lower_half, bodies_of, statement_in, part_moved, IsBranch, IsProperBody}
-use Rattle.asm_parse.specs.Printing.{shift_name, shift_by_name, alu_name, imm_name, branch_name, zero_name, jump_name, register, number, signed_of, signed_number, immediate, value_token, separated, named, one, branch_tokens, instr_tokens, body_tokens, branch_imm, IsWord, HasNumbers, body_stands, label_tokens}
+use Rattle.asm_parse.specs.Statements.{bodies_of, statement_in, part_moved, IsBranch, IsProperBody}
+use Rattle.asm_parse.specs.Printing.{shift_name, shift_by_name, alu_name, branch_name, zero_name, jump_name, number, signed_of, signed_number, value_token, named, one, branch_tokens, instr_tokens, body_tokens, branch_imm, IsWord, HasNumbers, body_stands, label_tokens}
 use Rattle.asm_parse.proofs.OperandsLemmas.{place_read, label_read, is_target, is_signed, signed_back}
 use Rattle.asm_parse.proofs.FormsLemmas.{Reads, behind_front, form_reads, shift_form, shift_by_form, alu_form, branch_form, zero_form, jump_form, shift_read, shift_by_read, alu_read, cas_read, signed_read, unsigned_read, lui_read, branch_read, zero_read, jump_read, jump_reg_read, jump_link_read, lw_read, sw_read, load_read, data_read, space_read, word_read, value_read}
 

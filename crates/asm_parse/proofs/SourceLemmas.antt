@@ -1,7 +1,7 @@
 -- A text that is printed is read as the statements that were printed.
-use Rattle.std.proofs.Common.{◌≡◌, ℕ, ◌+◌, ◌-◌, ◌*◌, ◌^◌, ◌<◌, ◌≤◌, Bool, true, false, ◌&&◌, List, [], ◌∷◌, ◌++◌, map, Result, Ok, refl, sym, ap, ◌∙◌, arith}
-use Rattle.std.specs.Prelude.{IsTrue, codes, nat_lt}
-use Rattle.std.specs.Fmt.{decimal, digits}
+use Rattle.std.proofs.Common.{◌≡◌, ℕ, ◌+◌, ◌*◌, ◌^◌, ◌<◌, Bool, true, false, ◌&&◌, List, [], ◌∷◌, ◌++◌, Ok, refl, ap, ◌∙◌, arith}
+use Rattle.std.specs.Prelude.{nat_lt}
+use Rattle.std.specs.Fmt.{digits}
 use Rattle.std.specs.List.{list_all, enumerate_from}
 use Rattle.std.proofs.lemmas.Bool.{agree_below, agree_below_at, and_parts}
 use Rattle.std.proofs.lemmas.Bool.Decides.{nat_tests}
@@ -18,7 +18,6 @@ use Rattle.mips_isa.specs.declared.ZeroOp.{ZeroOp}
 use Rattle.mips_isa.specs.declared.ZeroOp.TheVariants.{Bltz, Bgez, Blez, Bgtz}
 use Rattle.asm_token.specs.declared.token.Token.{Token}
 use Rattle.asm_token.specs.declared.token.Token.TheVariants as tokens
-use Rattle.asm_token.specs.Faults.{◌>>=◌}
 use Rattle.asm_token.specs.Printing.{is_name, can_be_written, printed_line}
 use Rattle.asm_token.proofs.PrintingLaws.{is_text_byte, all_pass, printed_writes, printed_bytes}
 use Rattle.asm_parse.specs.declared.statement.Body.{Body}
@@ -28,9 +27,9 @@ use Rattle.asm_parse.specs.declared.statement.Part.TheVariants as parts
 use Rattle.asm_parse.specs.declared.statement.Statement.{Statement}
 use Rattle.asm_parse.specs.declared.statement.Value.{Value}
 use Rattle.asm_parse.specs.declared.statement.Value.TheVariants as values
-use Rattle.asm_parse.specs.Lines.{is_within_line, with_byte, lines_of, line_of, statements_from, statements_of}
-use Rattle.asm_parse.specs.Statements.{part_moved, IsBranch, IsProperBody}
-use Rattle.asm_parse.specs.Printing.{shift_name, shift_by_name, alu_name, imm_name, branch_name, zero_name, jump_name, register, number, signed_of, signed_number, immediate, value_token, branch_tokens, instr_tokens, body_tokens, IsWord, HasNumbers, body_stands, value_named, body_named, AreWritable, printed_text, on_lines}
+use Rattle.asm_parse.specs.Lines.{is_within_line, lines_of, line_of, statements_from, statements_of}
+use Rattle.asm_parse.specs.Statements.{part_moved, IsProperBody}
+use Rattle.asm_parse.specs.Printing.{shift_name, shift_by_name, alu_name, imm_name, branch_name, zero_name, jump_name, register, number, signed_number, immediate, value_token, branch_tokens, instr_tokens, body_tokens, IsWord, HasNumbers, value_named, body_named, AreWritable, printed_text, on_lines}
 use Rattle.asm_parse.proofs.PrintingLemmas.{statement_read}
 
 -- The tokens of a statement can be written.

@@ -1,7 +1,6 @@
 -- How statements are written: the tokens of each, and the text that they are printed in.
-use Rattle.std.specs.Prelude.{◌≡◌, ℕ, ◌+◌, ◌-◌, ◌*◌, ◌^◌, ◌<◌, ◌≤◌, ◌&&◌, Bool, true, false, nat_lt, if◌then◌else◌, IsTrue, List, [], ◌∷◌, ◌++◌, map, Ok, codes}
+use Rattle.std.specs.Prelude.{◌≡◌, ℕ, ◌+◌, ◌-◌, ◌*◌, ◌^◌, ◌<◌, ◌≤◌, Bool, true, false, nat_lt, if◌then◌else◌, IsTrue, List, [], ◌∷◌, ◌++◌, map, Ok, codes}
 use Rattle.std.specs.Fmt.{decimal}
-use Rattle.std.specs.List.{enumerate_from, flat_map, list_all}
 use Rattle.mips_isa.specs.declared.Instr.{Instr}
 use Rattle.mips_isa.specs.declared.Instr.TheVariants as instrs
 use Rattle.mips_isa.specs.declared.ShiftOp.{ShiftOp}
@@ -15,8 +14,7 @@ use Rattle.mips_isa.specs.declared.ZeroOp.TheVariants.{Bltz, Bgez, Blez, Bgtz}
 use Rattle.asm_token.specs.declared.number.Number.{Number}
 use Rattle.asm_token.specs.declared.token.Token.{Token}
 use Rattle.asm_token.specs.declared.token.Token.TheVariants as tokens
-use Rattle.asm_token.specs.Numbers.{word_of}
-use Rattle.asm_token.specs.Printing.{is_name, can_be_written, Writes, printed_line}
+use Rattle.asm_token.specs.Printing.{is_name, Writes, printed_line}
 use Rattle.asm_parse.specs.declared.statement.Body.{Body}
 use Rattle.asm_parse.specs.declared.statement.Body.TheVariants.{Label, Text, Data, DataAt, Word, Space, Plain, BranchTo, JumpTo, Load}
 use Rattle.asm_parse.specs.declared.statement.Part.{Part}
@@ -26,7 +24,7 @@ use Rattle.asm_parse.specs.declared.statement.Value.{Value}
 use Rattle.asm_parse.specs.declared.statement.Value.TheVariants as values
 use Rattle.asm_parse.specs.Forms.{is_part}
 use Rattle.asm_parse.specs.Lines.{line_of, on_line, statements_of}
-use Rattle.asm_parse.specs.Statements.{upper_half, lower_half, part_moved, IsProperBody}
+use Rattle.asm_parse.specs.Statements.{part_moved, IsProperBody}
 
 -- The mnemonics of the MIPS32 manuals.
 
