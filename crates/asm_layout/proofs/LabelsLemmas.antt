@@ -12,7 +12,7 @@ use Rattle.asm_layout.specs.declared.place.Place.{Place}
 use Rattle.asm_layout.specs.Places.{place_behind, address_at}
 use Rattle.asm_layout.specs.Labels.{Addresses, label_at, labels_from, HoldsLabels}
 use Rattle.asm_layout.specs.Passes.{twice_fault}
-use Rattle.asm_layout.proofs.SplitLemmas.{one_more}
+use Rattle.asm_layout.proofs.SplitLaws.{one_more}
 
 -- The labels of statements and one more are those of the statements, and its own.
 labels_behind : (end : ℕ) (before ss : List Statement) (s : Statement)

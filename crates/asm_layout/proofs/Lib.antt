@@ -1,5 +1,5 @@
-pub mod SplitLemmas
-pub mod PlacesLemmas
+pub mod SplitLaws
+pub mod PlacesLaws
 pub mod LabelsLemmas
 pub mod PassesLemmas
 pub mod RoomLaws

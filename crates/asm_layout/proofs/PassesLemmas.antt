@@ -6,7 +6,7 @@ use Rattle.asm_token.specs.declared.fault.AsmFault.{AsmFault}
 use Rattle.asm_token.specs.declared.fault.AsmFault.TheVariants as faults
 use Rattle.asm_parse.specs.declared.statement.Statement.{Statement}
 use Rattle.asm_layout.specs.Passes.{FailsBy, first_fault, at_line}
-use Rattle.asm_layout.proofs.SplitLemmas.{one_more, one_less}
+use Rattle.asm_layout.proofs.SplitLaws.{one_more, one_less}
 
 -- a statement without a fault is passed over
 pub test_goes_on : (test : List Statement → Statement → Option AsmCause) (i : ℕ) (ss : List Statement) (s : Statement) → i < length ss → s ≡ get_or ss i s

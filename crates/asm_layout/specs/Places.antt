@@ -1,10 +1,11 @@
 -- Where the statements of a source stand in memory.
 use Rattle.std.specs.Prelude.{ℕ, ◌+◌, ◌*◌, ◌/◌, List, [], ◌∷◌, sum_by}
 use Rattle.asm_parse.specs.declared.statement.Body.{Body}
-use Rattle.asm_parse.specs.declared.statement.Body.TheVariants.{Text, Data, DataAt, Word, Space, Plain, BranchTo, JumpTo, Load}
+use Rattle.asm_parse.specs.declared.statement.Body.TheVariants.{DataAt, Word, Space, Plain, BranchTo, JumpTo, Load}
 use Rattle.asm_parse.specs.declared.statement.Part.{Part}
 use Rattle.asm_parse.specs.declared.statement.Part.TheVariants as parts
 use Rattle.asm_parse.specs.declared.statement.Statement.{Statement}
+use Rattle.asm_parse.specs.Statements.{part_moved}
 use Rattle.asm_layout.specs.declared.place.Place.{Place}
 
 -- how many bytes of code a statement has
@@ -25,13 +26,6 @@ data_size other = 0
 abbrev pub data_moved : ℕ → Body → ℕ
 data_moved end (DataAt start) = start
 data_moved end other = end + data_size other
-
--- the part in force behind a statement
-abbrev pub part_moved : Part → Body → Part
-part_moved part Text = parts.Text
-part_moved part Data = parts.Data
-part_moved part (DataAt start) = parts.Data
-part_moved part other = part
 
 -- The bytes of code of statements: the sum of their sizes.
 unfoldable pub code_behind : List Statement → ℕ

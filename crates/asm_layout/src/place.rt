@@ -1,6 +1,7 @@
 //! Where statements stand.
 ghost use Rattle.std.specs.Prelude.{◌≡◌, ◌+◌, ◌^◌, ◌<◌, ◌≤◌, []};
-ghost use Rattle.asm_layout.specs.Places.{code_size, data_size, data_moved, part_moved, place_moved, place_behind, address_at};
+ghost use Rattle.asm_parse.specs.Statements.{part_moved};
+ghost use Rattle.asm_layout.specs.Places.{code_size, data_size, data_moved, place_moved, place_behind, address_at};
 
 use asm_parse::{Body, Part};
 

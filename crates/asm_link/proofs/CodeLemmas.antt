@@ -5,8 +5,8 @@ use Rattle.std.proofs.Math.ListN.{drop_of_length-le}
 use Rattle.mips_isa.specs.Words.{word_of}
 use Rattle.asm_parse.specs.declared.statement.Statement.{Statement}
 use Rattle.asm_layout.specs.Places.{code_size, code_behind}
-use Rattle.asm_layout.proofs.SplitLemmas.{one_more, one_less}
-use Rattle.asm_layout.proofs.PlacesLemmas.{code_counted}
+use Rattle.asm_layout.proofs.SplitLaws.{one_more, one_less}
+use Rattle.asm_layout.proofs.PlacesLaws.{code_counted}
 use Rattle.asm_layout.specs.Labels.{Addresses}
 use Rattle.asm_link.specs.Assembly.{instrs_of, code_from}
 

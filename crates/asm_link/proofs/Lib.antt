@@ -1,4 +1,3 @@
-pub mod RoomLemmas
 pub mod CodeLemmas
 pub mod CodeLaws
 pub mod SegmentsLaws

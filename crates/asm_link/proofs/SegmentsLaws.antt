@@ -13,9 +13,9 @@ use Rattle.asm_layout.specs.declared.place.Place.{Place}
 use Rattle.asm_layout.specs.Places.{data_size, data_moved, data_behind, place_behind}
 use Rattle.asm_layout.specs.Labels.{Addresses}
 use Rattle.asm_layout.specs.Passes.{first_fault, room_fault, room_test}
-use Rattle.asm_layout.proofs.PlacesLemmas.{place_more}
+use Rattle.asm_layout.proofs.PlacesLaws.{place_more}
+use Rattle.asm_layout.proofs.RoomLaws.{first_none, start_fits, data_fits}
 use Rattle.asm_link.specs.Assembly.{data_words, words_before_next, addressed_segments, goes_on_behind_code, segments_of}
-use Rattle.asm_link.proofs.RoomLemmas.{first_none, start_fits, data_fits}
 
 more_words : (known : Addresses) (body : Body) (rest : List Body) → ((start : ℕ) → body ≡ DataAt start → ⊥) → words_before_next known (body ∷ rest) ≡ data_words known body ++ words_before_next known rest
 more_words known (DataAt start) rest never = absurd (never start refl)

@@ -4,3 +4,9 @@ pub mod ReadingLemmas
 pub mod SizeLemmas
 pub mod TablesLemmas
 pub mod WordsLemmas
+pub mod OperandsLemmas
+pub mod FormsLemmas
+pub mod PrintingLemmas
+pub mod MacrosLemmas
+pub mod SourceLemmas
+pub mod WorkedLemmas

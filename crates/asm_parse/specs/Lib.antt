@@ -1,7 +1,10 @@
 pub mod Bounds
 pub mod Forms
 pub mod Lines
+pub mod Macros
 pub mod Operands
+pub mod Printing
 pub mod Registers
 pub mod Statements
 pub mod Tables
+pub mod Worked

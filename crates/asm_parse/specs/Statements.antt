@@ -19,6 +19,8 @@ use Rattle.asm_parse.specs.declared.forms.Form.TheVariants as forms
 use Rattle.asm_parse.specs.declared.operands.Operands.{Operands}
 use Rattle.asm_parse.specs.declared.statement.Body.{Body}
 use Rattle.asm_parse.specs.declared.statement.Body.TheVariants.{Text, Data, DataAt, Word, Space, Plain, BranchTo, JumpTo, Load}
+use Rattle.asm_parse.specs.declared.statement.Part.{Part}
+use Rattle.asm_parse.specs.declared.statement.Part.TheVariants as parts
 use Rattle.asm_parse.specs.declared.statement.Statement.{Statement}
 use Rattle.asm_parse.specs.declared.statement.Value.{Value}
 use Rattle.asm_parse.specs.declared.statement.Value.TheVariants as values
@@ -131,3 +133,10 @@ IsProperBody other = Unit {0}
 -- each statement is proper
 abbrev pub AreProper : List Statement → Type 0
 AreProper statements = All (λ statement. IsProperBody statement.body) statements
+
+-- the part in force behind a statement
+abbrev pub part_moved : Part → Body → Part
+part_moved part Text = parts.Text
+part_moved part Data = parts.Data
+part_moved part (DataAt start) = parts.Data
+part_moved part other = part

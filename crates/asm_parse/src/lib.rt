@@ -4,6 +4,7 @@
 mod bodies;
 mod bounds;
 mod forms;
+pub mod laws;
 mod lines;
 mod operands;
 mod registers;

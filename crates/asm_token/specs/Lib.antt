@@ -2,3 +2,4 @@ pub mod Bytes
 pub mod Faults
 pub mod Numbers
 pub mod Tokens
+pub mod Printing

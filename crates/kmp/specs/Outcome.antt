@@ -8,7 +8,8 @@ use Rattle.row_reader.specs.Rows.{rows_of}
 use Rattle.report_text.specs.Report.{ReportValue}
 use Rattle.report_text.specs.Right.{IsRightReport}
 use Rattle.report_text.specs.Text.{report_text}
-use Rattle.report_text.specs.Form.{IsReport, IsBadRow}
+use Rattle.report_text.specs.Form.{IsReport}
+use Rattle.report_read.specs.BadRow.{IsBadRow}
 use Rattle.replayer.specs.declared.Difference.{Difference}
 use Rattle.replayer.specs.Difference.{IsDifference}
 use Rattle.kmp_words.specs.Input.{ReadsAll, ReadsMeaning}

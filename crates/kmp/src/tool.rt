@@ -21,9 +21,8 @@ use image_file::{Image, write_image};
 use kmp_base::{InputFault, Row, Setup, Sink, Source, WriteFault, put, read_input};
 use kmp_words::{Input, LoadFault, Order, WordFault, load, read_words};
 use replayer::{Verdict, check};
-use report_text::{
-    NoMemory, Report, ReportFault, build_report, print_report, read_report, right_report_is_read,
-};
+use report_read::{ReportFault, read_report};
+use report_text::{NoMemory, Report, build_report, print_report, right_report_is_read};
 use std::alloc::Global;
 
 /// The most bytes of a report that is checked.

@@ -67,7 +67,7 @@ fn difference_of(machine: &mut Machine, report: &Report) -> Option<Difference>
 
 /// Whether a report is right, and else its first difference.
 ///
-/// Each report that [`report_text::read_report`] gives meets the conditions. The error says that there wasn't enough
+/// Each report that was read from a text meets the conditions. The error says that there wasn't enough
 /// memory for the machine; nothing else is taken.
 pub fn check(alloc: Global, report: &Report) -> Result<Verdict, NoMemory>
     requires form { IsReport report.now }

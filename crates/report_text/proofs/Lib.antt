@@ -1,15 +1,6 @@
 pub mod ImageLemmas
+pub mod ImageLaws
 pub mod TextLemmas
 pub mod CountLemmas
-pub mod RowLemmas
-pub mod SizeLemmas
-pub mod LoopLemmas
-pub mod ListLaws
-pub mod OpeningLaws
-pub mod LastRowLaws
-pub mod CoreLaws
-pub mod OutcomeLaws
-pub mod PlainText
-pub mod WholeLaws
 pub mod FormReplay
 pub mod FormLaws

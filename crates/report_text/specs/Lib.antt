@@ -2,6 +2,5 @@ pub mod Report
 pub mod Counts
 pub mod Text
 pub mod Form
-pub mod Reading
 pub mod Right
 pub mod Bits

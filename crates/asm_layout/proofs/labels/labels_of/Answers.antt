@@ -2,7 +2,7 @@ use Rattle.std.proofs.Common.{◌∙◌, sym, refl, arith}
 use Rattle.std.proofs.lemmas.List.{take_all}
 use Rattle.std.proofs.lemmas.Result.{err_from_is_err_and}
 use Rattle.asm_layout.specs.Passes.{twice_test}
-use Rattle.asm_layout.proofs.PlacesLemmas.{moves_on}
+use Rattle.asm_layout.proofs.PlacesLaws.{moves_on}
 use Rattle.asm_layout.proofs.LabelsLemmas.{labels_more, none_held}
 use Rattle.asm_layout.proofs.PassesLemmas.{test_goes_on, error_fails, tests_done}
 use Rattle.asm_layout.proofs.labels.labels_of.Goals as goal

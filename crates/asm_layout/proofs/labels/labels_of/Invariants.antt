@@ -1,7 +1,7 @@
 use Rattle.std.proofs.Common.{◌≡◌, [], take, drop}
 use Rattle.asm_layout.specs.Labels.{labels_from, HoldsLabels}
 use Rattle.asm_layout.specs.Passes.{first_fault, twice_test}
-use Rattle.asm_layout.proofs.PlacesLemmas.{StandsBehind}
+use Rattle.asm_layout.proofs.PlacesLaws.{StandsBehind}
 use Rattle.asm_layout.proofs.labels.labels_of.Given as goal
 
 abbrev pub invariant-loop-statement : goal.invariant-loop-statement

@@ -2,7 +2,7 @@ use Rattle.std.proofs.Common.{◌∙◌, List, ap, arith}
 use Rattle.std.proofs.lemmas.List.{take_all}
 use Rattle.asm_parse.specs.declared.statement.Statement.{Statement}
 use Rattle.asm_layout.specs.Places.{code_behind}
-use Rattle.asm_layout.proofs.PlacesLemmas.{code_counted, no_code}
+use Rattle.asm_layout.proofs.PlacesLaws.{code_counted, no_code}
 use Rattle.asm_layout.proofs.layout.code_bytes.Goals as goal
 
 pub loop-statement-init : goal.loop-statement-init

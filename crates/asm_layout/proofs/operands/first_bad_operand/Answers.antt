@@ -1,7 +1,7 @@
 use Rattle.std.proofs.Common.{Option, ◌∙◌, ℕ, ap, sym, refl, arith}
 use Rattle.asm_token.specs.declared.fault.AsmCause.{AsmCause}
 use Rattle.asm_layout.specs.Passes.{at_line, operand_fault, operand_test}
-use Rattle.asm_layout.proofs.PlacesLemmas.{code_counted, no_code}
+use Rattle.asm_layout.proofs.PlacesLaws.{code_counted, no_code}
 use Rattle.asm_layout.proofs.PassesLemmas.{test_goes_on, test_fails, tests_done}
 use Rattle.asm_layout.proofs.operands.first_bad_operand.Goals as goal
 

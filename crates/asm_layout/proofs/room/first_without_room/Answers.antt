@@ -2,7 +2,7 @@ use Rattle.std.proofs.Common.{Option, ◌∙◌, ap, sym, refl, arith}
 use Rattle.asm_layout.specs.declared.place.Place.{Place}
 use Rattle.asm_token.specs.declared.fault.AsmCause.{AsmCause}
 use Rattle.asm_layout.specs.Passes.{at_line, room_fault, room_test}
-use Rattle.asm_layout.proofs.PlacesLemmas.{moves_on}
+use Rattle.asm_layout.proofs.PlacesLaws.{moves_on}
 use Rattle.asm_layout.proofs.PassesLemmas.{test_goes_on, test_fails, tests_done}
 use Rattle.asm_layout.proofs.room.first_without_room.Goals as goal
 

@@ -1,6 +1,6 @@
 use Rattle.std.proofs.Common.{◌≡◌, [], take, drop}
 use Rattle.asm_layout.specs.Passes.{first_fault, room_test}
-use Rattle.asm_layout.proofs.PlacesLemmas.{StandsBehind}
+use Rattle.asm_layout.proofs.PlacesLaws.{StandsBehind}
 use Rattle.asm_layout.proofs.room.first_without_room.Given as goal
 
 abbrev pub invariant-loop-statement : goal.invariant-loop-statement

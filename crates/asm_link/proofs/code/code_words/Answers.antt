@@ -1,5 +1,5 @@
 use Rattle.std.proofs.Common.{refl, arith, append_assoc, append-nil}
-use Rattle.asm_layout.proofs.PlacesLemmas.{no_code, code_counted}
+use Rattle.asm_layout.proofs.PlacesLaws.{no_code, code_counted}
 use Rattle.asm_link.proofs.CodeLemmas.{code_within, code_goes_on, code_done}
 use Rattle.asm_link.proofs.code.code_words.Goals as goal
 

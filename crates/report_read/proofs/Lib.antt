@@ -1,0 +1,10 @@
+pub mod RowLemmas
+pub mod SizeLemmas
+pub mod LoopLemmas
+pub mod ListLaws
+pub mod OpeningLaws
+pub mod LastRowLaws
+pub mod CoreLaws
+pub mod OutcomeLaws
+pub mod PlainText
+pub mod WholeLaws

@@ -1,0 +1,2 @@
+pub mod BadRow
+pub mod Reading

@@ -1,0 +1,10 @@
+//! A report from its text.
+#![tactic(auto)]
+
+mod header;
+mod image;
+mod outcome;
+mod read;
+mod rows;
+
+pub use read::{ReportFault, read_report};

@@ -1,0 +1,216 @@
+//! What was done and how it ended, from the rows behind the image.
+ghost use Rattle.std.specs.Prelude.{◌≡◌, ◌^◌, ◌<◌, ◌≤◌, ◌++◌, [], length, map, slice_index_or, IfOk};
+ghost use Rattle.std.specs.List.{AllByRecursion};
+ghost use Rattle.access_log.specs.declared.Item.TheVariants.{Done};
+ghost use Rattle.row_reader.specs.Rows.{rows_of};
+ghost use Rattle.row_reader.specs.Gives.{Gives};
+ghost use Rattle.report_rows.specs.Ends.{end_value};
+ghost use Rattle.report_read.specs.Reading.{entries_at, end_at, ends_at, words_at, count_names, counts_at, outcome_at};
+
+use crate::rows::{first_row, registers_at};
+use access_log::{Entry, History, Item};
+use image_file::Image;
+use kmp_base::Setup;
+use mips_isa::CoreState;
+use report_rows::{Counts, MemoryWord, count_row, end_row, entry_row, last_row, memory_row};
+use report_text::{NoMemory, Report};
+use row_reader::{Stuck, is_next};
+use std::alloc::Global;
+use timetable::{CoreEnd, Rows};
+
+/// The names of the counts, in the order of their rows.
+const COUNTS: [&str; 13] = [
+    "retired",
+    "loads",
+    "stores",
+    "cas",
+    "swapped",
+    "transactions",
+    "exclusive",
+    "owned",
+    "upgrades",
+    "flushes",
+    "wait-fetch",
+    "wait-operand",
+    "wait-access",
+];
+
+/// The accesses that stand first in a text.
+#[tactic(auto, unfolding(report_rows::specs::Reading::entry_row_of))]
+fn entries<'a>(
+    alloc: Global,
+    text: &'a [u8],
+    cores: u32,
+    bytes: u32,
+) -> Result<(Vec<Entry>, &'a [u8]), Stuck<'a>>
+    requires some_cores { 0 < cores }
+    requires few_cores { cores ≤ 8 }
+    ensures found { Gives (λ x. (x.0.items, rows_of x.1.now)) result (entries_at cores bytes (rows_of text.now)) }
+    ensures cores { IfOk result (λ x. AllByRecursion (λ entry. entry.core < 8) x.0.items) }
+    ensures few { IfOk result (λ x. length x.0.items ≤ length text.now) }
+{
+    let mut entries = Vec::new(alloc);
+    let mut rest = text;
+    'rows: while is_next(rest, b"A") {
+        let (entry, behind) = first_row(rest, move |row| entry_row(row, cores, bytes))?;
+        let Ok(()) = entries.push(entry) else {
+            return Err(Stuck::Memory);
+        };
+        rest = behind;
+    }
+    Ok((entries, rest))
+}
+
+/// The registers of a core, by eight of them in a row.
+fn registers(a: [u32; 8], b: [u32; 8], c: [u32; 8], d: [u32; 8]) -> [u32; 32]
+    ensures { result ≡ a ++ b ++ c ++ d }
+{
+    let mut registers = [0; 32];
+    registers.copy_from_slice([a, b, c, d].as_flattened());
+    registers
+}
+
+/// How a core ended.
+#[tactic(auto, unfolding(report_rows::specs::Reading::end_row_of, crate::specs::Reading::end_at))]
+fn end<'a>(
+    alloc: Global,
+    text: &'a [u8],
+    budget: u32,
+    core: u32,
+) -> Result<(CoreEnd, &'a [u8]), Stuck<'a>>
+    ensures { Gives (λ x. (end_value x.0, rows_of x.1.now)) result (end_at budget core (rows_of text.now)) }
+{
+    let (row, rest) = first_row(text, move |row| end_row(row, budget, core))?;
+    let (a, rest) = registers_at(rest, core, 0)?;
+    let (b, rest) = registers_at(rest, core, 8)?;
+    let (c, rest) = registers_at(rest, core, 16)?;
+    let (d, rest) = registers_at(rest, core, 24)?;
+    let ended = CoreEnd {
+        end: row.end,
+        cycles: row.cycles,
+        retired: row.retired,
+        state: CoreState {
+            pc: row.pc,
+            dpc: row.dpc,
+            regs: registers(a, b, c, d),
+        },
+        rows: Rows::empty(alloc),
+    };
+    Ok((ended, rest))
+}
+
+/// How each core ended.
+fn ends<'a>(
+    alloc: Global,
+    text: &'a [u8],
+    budget: u32,
+    cores: u32,
+) -> Result<(Vec<CoreEnd>, &'a [u8]), Stuck<'a>>
+    ensures { Gives (λ x. (map end_value x.0.items, rows_of x.1.now)) result (ends_at budget cores (rows_of text.now)) }
+{
+    let mut ends = Vec::new(alloc);
+    let mut rest = text;
+    for core in 0..cores {
+        let (ended, behind) = end(alloc, rest, budget, core)?;
+        let Ok(()) = ends.push(ended) else {
+            return Err(Stuck::Memory);
+        };
+        rest = behind;
+    }
+    Ok((ends, rest))
+}
+
+/// The words that stand first in a text, at addresses from `low` on within so many bytes.
+#[tactic(auto, unfolding(report_rows::specs::Reading::memory_row_of))]
+fn words<'a>(
+    alloc: Global,
+    text: &'a [u8],
+    bytes: u32,
+    low: u32,
+) -> Result<(Vec<MemoryWord>, &'a [u8]), Stuck<'a>>
+    requires { bytes ≤ 16777216 }
+    ensures { Gives (λ x. (x.0.items, rows_of x.1.now)) result (words_at bytes low (rows_of text.now)) }
+{
+    let mut words = Vec::new(alloc);
+    let mut rest = text;
+    let mut from = low;
+    'rows: while is_next(rest, b"W") {
+        let (word, behind) = first_row(rest, move |row| memory_row(row, bytes, from))?;
+        let Ok(()) = words.push(word) else {
+            return Err(Stuck::Memory);
+        };
+        from = word.addr + 4;
+        rest = behind;
+    }
+    Ok((words, rest))
+}
+
+/// The name of a count, by its place.
+fn count_name(place: usize) -> &'static [u8]
+    requires { place < 13 }
+    ensures { result.now ≡ slice_index_or count_names place [] }
+{
+    COUNTS[place].as_bytes()
+}
+
+/// The counts.
+#[tactic(auto, unfolding(report_rows::specs::Reading::count_row_of))]
+fn counts(text: &[u8]) -> Result<(Counts, &[u8]), Stuck<'_>>
+    ensures { Gives (λ x. (x.0.values, rows_of x.1.now)) result (counts_at (rows_of text.now)) }
+{
+    let mut values = [0; 13];
+    let mut rest = text;
+    for i in 0..13 {
+        let key = count_name(i);
+        let (count, behind) = first_row(rest, move |row| count_row(row, key))?;
+        values[i] = count;
+        rest = behind;
+    }
+    Ok((Counts { values }, rest))
+}
+
+/// The list of these accesses, with exactly the room for them.
+fn history(alloc: Global, entries: &[Entry]) -> Result<History, NoMemory>
+    requires few { length entries.now < 2 ^ 32 }
+    requires cores { AllByRecursion (λ entry. entry.core < 8) entries.now }
+    ensures { IfOk result (λ history. history.items ≡ map (λ entry. Done entry) entries.now) }
+{
+    let mut history = History::new(alloc, entries.len() as u32)?;
+    for entry in entries {
+        history.push(Item::Done(*entry));
+    }
+    Ok(history)
+}
+
+/// What stands behind an image.
+#[tactic(auto, unfolding(report_rows::specs::Reading::fixed_of, crate::specs::Reading::outcome_at))]
+pub(crate) fn outcome<'a>(
+    alloc: Global,
+    text: &'a [u8],
+    setup: Setup,
+    image: Image,
+) -> Result<(Report, &'a [u8]), Stuck<'a>>
+    requires some_cores { 0 < setup.cores }
+    requires few_cores { setup.cores ≤ 8 }
+    requires small { length text.now < 2 ^ 32 }
+    ensures { Gives (λ x. (x.0, rows_of x.1.now)) result (outcome_at setup image (rows_of text.now)) }
+{
+    let bytes = 8 * image.memory_lines;
+    let (entries, rest) = entries(alloc, text, setup.cores, bytes)?;
+    let (cores, rest) = ends(alloc, rest, setup.budget, setup.cores)?;
+    let (words, rest) = words(alloc, rest, bytes, 4 * image.code.len() as u32)?;
+    let (counts, rest) = counts(rest)?;
+    let (_, rest) = first_row(rest, |row| last_row(row))?;
+    let Ok(history) = history(alloc, &entries) else {
+        return Err(Stuck::Memory);
+    };
+    let report = Report {
+        setup,
+        image,
+        history,
+        cores,
+        words,
+        counts,
+    };
+    Ok((report, rest))
+}

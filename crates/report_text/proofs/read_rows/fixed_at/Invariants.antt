@@ -1,6 +1,0 @@
-use Rattle.std.proofs.Common.{[], ◌∷◌}
-use Rattle.report_rows.specs.Reading.{fixed_of}
-use Rattle.report_text.proofs.read_rows.fixed_at.Given as goal
-
-abbrev pub ghost-first_row : goal.ghost-first_row
-ghost-first_row a = fixed_of (a.read.0.now ∷ a.read.1.now ∷ [])

@@ -1,5 +1,0 @@
-use Rattle.report_rows.specs.Reading.{registers_row_of}
-use Rattle.report_text.proofs.read_rows.registers_at.Given as goal
-
-abbrev pub ghost-first_row : goal.ghost-first_row
-ghost-first_row a = registers_row_of a.read.0 a.read.1
