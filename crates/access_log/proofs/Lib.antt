@@ -1,6 +1,6 @@
 pub mod EndLaws
 pub mod EntryLaws
-pub mod InterleavingLaw
+pub mod InterleavingLaws
 pub mod MergeLaws
 pub mod ReplayLaws
 pub mod ItemLaws

@@ -19,7 +19,7 @@ use Rattle.access_log.proofs.ItemLaws.{length-after}
 use Rattle.access_log.proofs.ReplayLaws.{where_true, and_then_parts, map-some}
 use Rattle.access_log.proofs.MergeLaws.{due-made, due-old, stepped, slice_get_some, slice_get-set_other, each_all, length-memory_after}
 use Rattle.access_log.proofs.EndLaws.{EachEnds, Ended, ended-each}
-use Rattle.access_log.proofs.InterleavingLaw.{start_of, start_at, length-start, count_within}
+use Rattle.access_log.proofs.InterleavingLaws.{start_of, start_at, length-start, count_within}
 
 abbrev at : List ℕ → List Core → List ℕ → FlatMachine
 at code cores memory = record { code = code; cores = cores; memory = memory }

@@ -1,4 +1,16 @@
 //! What cores ask of memory, the list of what was done, and the sequential machine that repeats it.
+//!
+//! Laws that crates above cite:
+//!
+//! - `proofs/ReplayLaws`: catching up, entries and replay, in parts and as a whole.
+//! - `proofs/InterleavingLaws`: an interleaving is a run of the sequential machine.
+//! - `proofs/SplitLaws`: a run of the sequential machine is an interleaving.
+//! - `proofs/MergeLaws`: a history that memory allows, and that each core makes by itself, is such a run.
+//! - `proofs/AloneLaws`: the steps of one core by itself.
+//! - `proofs/ItemLaws`: a history over an append, and the entries in it.
+//! - `proofs/EntryLaws`: the test of two entries tells whether they are one.
+//! - `proofs/RequestLaws`: the fields of the entry of a request.
+//! - `proofs/StampLaws`: stamps over an append, and those of one core.
 #![tactic(auto)]
 
 mod field;

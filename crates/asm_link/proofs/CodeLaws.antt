@@ -10,7 +10,7 @@ use Rattle.mips_isa.specs.Steps.{IsCode}
 use Rattle.mips_isa.specs.declared.Instr.{Instr}
 use Rattle.mips_isa.specs.declared.Instr.TheVariants as instrs
 use Rattle.mips_isa.specs.declared.ImmOp.TheVariants.{Ori}
-use Rattle.mips_isa.proofs.FieldsOf.{instr_of-word_of}
+use Rattle.mips_isa.proofs.FieldLaws.{instr_of-word_of}
 use Rattle.asm_parse.specs.declared.statement.Body.{Body}
 use Rattle.asm_parse.specs.declared.statement.Body.TheVariants as bodies
 use Rattle.asm_parse.specs.declared.statement.Statement.{Statement}

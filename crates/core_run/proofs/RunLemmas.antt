@@ -14,7 +14,7 @@ use Rattle.access_log.specs.Interleaving.{RunsAlone, Interleaves}
 use Rattle.access_log.specs.Items.{entries, own_items}
 use Rattle.access_log.specs.Stamps.{Stamp, own_stamps}
 use Rattle.access_log.proofs.AloneLaws.{comes-alone}
-use Rattle.access_log.proofs.InterleavingLaw.{interleaving}
+use Rattle.access_log.proofs.InterleavingLaws.{interleaving}
 use Rattle.access_log.proofs.ItemLaws.{entries-append, own-entries, memory_after-entries, length-after_items}
 use Rattle.access_log.proofs.MergeLaws.{slice_get_some}
 use Rattle.access_log.proofs.ReplayLaws.{map-some}

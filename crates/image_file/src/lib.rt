@@ -1,6 +1,12 @@
 //! A program as it is loaded: its code, its segments, and the size of its memory.
 //!
 //! A word has four bytes, the lowest first. A line of memory has two words, that is 8 bytes.
+//!
+//! Laws that crates above cite:
+//!
+//! - `proofs/SpellingLaws`: how long the spelling of an image is, and how it is put together.
+//! - `proofs/ReadingLaws`: only the spelling of a good image is read as an image.
+//! - `proofs/StartLaws`: how many words memory has at the start.
 #![tactic(auto)]
 
 mod copy;

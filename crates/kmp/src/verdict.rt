@@ -56,7 +56,7 @@ fn add_word(row: &mut Row, addr: u32, value: u32)
 }
 
 /// Appends what stands in a field.
-#[tactic(auto, using(kmp_base::proofs::TextLemmas::decimal_fits))]
+#[tactic(auto, using(kmp_base::proofs::TextLaws::decimal_fits))]
 fn add_found(row: &mut Row, found: Found)
     requires { length row.old ≤ 108 }
     ensures bytes { row.new ≡ row.old ++ found_text found }
@@ -85,7 +85,7 @@ pub fn agrees() -> Row
 }
 
 /// The row of a report's first difference.
-#[tactic(auto, using(kmp_base::proofs::TextLemmas::decimal_fits))]
+#[tactic(auto, using(kmp_base::proofs::TextLaws::decimal_fits))]
 pub fn differs(difference: &Difference) -> Row
     ensures row { result ≡ difference_row difference.now }
 {

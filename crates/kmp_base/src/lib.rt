@@ -1,6 +1,11 @@
 //! The base of the programs: streams of bytes, rows of text, numbers, and what is asked of a run.
 //! A stream in memory tells its content, so contracts say what was read and what was written. One
 //! over a real stream can't know what lies behind it, and tells none. Each counts its faults.
+//!
+//! Laws that crates above cite:
+//!
+//! - `proofs/StreamLaws`: texts that are appended one after another, and bytes that are read one after another.
+//! - `proofs/TextLaws`: how long a decimal number is, and which texts spell no word.
 #![tactic(auto)]
 
 mod memory;

@@ -1,4 +1,4 @@
--- What a core asks for may be asked of memory, and off the code it stops.
+-- What a core asks for may be asked of memory.
 use Rattle.std.proofs.Common.{◌≡◌, ℕ, ◌*◌, Bool, true, false, List, length, refl, sym, ◌∙◌, arith, subst}
 use Rattle.std.specs.Prelude.{Option, Some, None, if◌then◌else◌}
 use Rattle.std.proofs.lemmas.Bool.Decides.{nat_tests}
@@ -10,7 +10,7 @@ use Rattle.mips_isa.specs.declared.Stop.{Stop}
 use Rattle.mips_isa.specs.declared.Stop.TheVariants as stops
 use Rattle.mips_isa.specs.declared.Access.{Access}
 use Rattle.mips_isa.specs.declared.CoreState.{CoreState}
-use Rattle.mips_isa.specs.declared.Next.TheVariants.{Stops, Asks}
+use Rattle.mips_isa.specs.declared.Next.TheVariants.{Asks}
 use Rattle.mips_isa.specs.Effects.{kind_of, address_of, access_stop, instr_stop, first_stop, is_off_code, IsProperAddress}
 use Rattle.mips_isa.specs.Steps.{rs_value, rs_value_at, instr_at, stop_of, next_by, next_at, next_of, IsAccess, MayAccess}
 
@@ -68,14 +68,3 @@ by_place cb mb s false (Some i) a h = by_instr cb mb s i a h
 pub next-may : (code : List ℕ) (bytes : ℕ) (s : CoreState) (a : Access) → next_of code bytes s ≡ Asks a → MayAccess (4 * length code) bytes a.kind a.addr
 unfolding next_of stop_of first_stop
 next-may code bytes s a h = by_place (4 * length code) bytes s (is_off_code (4 * length code) s.dpc) (instr_at code s.dpc) a h
-
--- Off the code that stop comes first.
-off : (cb mb : ℕ) (s : CoreState) (b : Bool) (o : Option Instr) → b ≡ true → next_at s (if b then Some stops.OffCode else instr_stop cb mb o (rs_value_at s o)) o ≡ Stops stops.OffCode
-off cb mb s true None e = refl
-off cb mb s true (Some i) e = refl
-off cb mb s false o e = cc
-
--- Off the code a core stops.
-pub next-off : (code : List ℕ) (bytes : ℕ) (s : CoreState) → is_off_code (4 * length code) s.dpc ≡ true → next_of code bytes s ≡ Stops stops.OffCode
-unfolding next_of stop_of first_stop
-next-off code bytes s e = off (4 * length code) bytes s (is_off_code (4 * length code) s.dpc) (instr_at code s.dpc) e

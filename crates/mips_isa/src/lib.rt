@@ -3,6 +3,11 @@
 //! Encodings and effects are those of the MIPS32 architecture, Release 1, with delay slots. Nothing traps: what MIPS32
 //! answers by an exception is a [`Stop`], or for an overflow the sum modulo 2^32. The instructions `cas` and `halt` are
 //! this machine's own.
+//!
+//! Laws that crates above cite:
+//!
+//! - `proofs/FieldLaws`: a word spells one instruction at most.
+//! - `proofs/NextLaws`: what a core asks for may be asked of memory.
 #![tactic(auto)]
 
 pub mod effects;

@@ -13,8 +13,8 @@ use Rattle.seq_machine.specs.declared.Reach.{Reach}
 use Rattle.seq_machine.specs.declared.Reach.TheVariants.{There, AccessAt, StopAt, Passed}
 use Rattle.seq_machine.specs.Reaching.{CatchesUp}
 use Rattle.seq_machine.specs.Differences.{DiffersFirst, difference_of}
-use Rattle.seq_machine.proofs.Reaching.{one_answer, CatchesUp-place}
-use Rattle.seq_machine.proofs.Entering.{entered-away, entered-differs}
+use Rattle.seq_machine.proofs.ReachingLaws.{one_answer, CatchesUp-place}
+use Rattle.seq_machine.proofs.EnteringLaws.{entered-away, entered-differs}
 use Rattle.report_text.specs.Report.{ReportValue}
 use Rattle.replayer.specs.declared.Difference.{Difference}
 use Rattle.replayer.specs.Difference.{EntryDiffers, OutcomeDiffers, IsDifference}

@@ -18,7 +18,7 @@ use Rattle.access_log.specs.declared.Entry.{Entry}
 use Rattle.access_log.specs.Memory.{due, is_same}
 use Rattle.access_log.specs.Replay.{FlatMachine, memory_bytes, quiet, next_in, caught_up, caught_up_in, caught_up_for, finished, entered_by, entered, entered_all, starting, started}
 use Rattle.access_log.proofs.ReplayLaws.{and_then_parts, where_true}
-use Rattle.seq_machine.proofs.Entering.{as_large-entered}
+use Rattle.seq_machine.proofs.EnteringLaws.{as_large-entered}
 use Rattle.replayer.specs.Cores.{farthest}
 use Rattle.replayer.proofs.RightCores.{core_of, farther, farthest-caught_up}
 

@@ -26,7 +26,7 @@ fn add_word(row: &mut Row, word: &str)
 }
 
 /// Appends a space and a number.
-#[tactic(auto, using(kmp_base::proofs::TextLemmas::decimal_fits))]
+#[tactic(auto, using(kmp_base::proofs::TextLaws::decimal_fits))]
 fn add_number(row: &mut Row, n: u64)
     requires { length row.old ≤ 107 }
     ensures bytes { row.new ≡ row.old ++ codes " " ++ decimal n }

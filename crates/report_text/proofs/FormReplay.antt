@@ -17,7 +17,7 @@ use Rattle.access_log.specs.Memory.{made, due, is_same}
 use Rattle.access_log.specs.Replay.{FlatMachine, next_in, caught_up, caught_up_for, finished, entered_by, entered, entered_all, with_core, moved, ended, started, starting, replay, own, own_by, own_step, own_steps}
 use Rattle.access_log.specs.Interleaving.{Interleaves}
 use Rattle.access_log.proofs.EntryLaws.{is_same-true}
-use Rattle.access_log.proofs.InterleavingLaw.{length-start}
+use Rattle.access_log.proofs.InterleavingLaws.{length-start}
 use Rattle.access_log.proofs.MergeLaws.{own-at, slice_get_some, stepped}
 use Rattle.access_log.proofs.ReplayLaws.{and_then_parts, map-some, where_true, CaughtUp-from}
 use Rattle.report_rows.specs.Bounds.{IsPlace}

@@ -8,7 +8,7 @@ use Rattle.std.proofs.lemmas.List.Concat.{flat_map-append}
 use Rattle.std.proofs.lemmas.List.Folds.{flat_map-map}
 use Rattle.kmp_base.specs.Rows.{row_text, text_of}
 use Rattle.kmp_base.specs.Streams.{Writes}
-use Rattle.kmp_base.proofs.StreamLemmas.{writes_as, writes_next, writes_cut}
+use Rattle.kmp_base.proofs.StreamLaws.{writes_as, writes_next, writes_cut}
 use Rattle.timetable.specs.declared.CoreEnd.{CoreEnd}
 use Rattle.report_rows.specs.Ends.{end_value}
 use Rattle.report_rows.specs.Rows.{core_rows}

@@ -1,3 +1,3 @@
 pub mod Differences
-pub mod Entering
-pub mod Reaching
+pub mod EnteringLaws
+pub mod ReachingLaws

@@ -2,6 +2,11 @@
 //!
 //! Each core executes its instructions up to the access that an entry tells, and the machine compares the entry with
 //! that access and makes it.
+//!
+//! Laws that crates above cite:
+//!
+//! - `proofs/EnteringLaws`: what applying an entry does to a machine.
+//! - `proofs/ReachingLaws`: where a core stands that was to catch up: one answer fits.
 #![tactic(auto)]
 
 mod machine;

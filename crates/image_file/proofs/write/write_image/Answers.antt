@@ -4,7 +4,7 @@ use Rattle.std.specs.List.{flat_map}
 use Rattle.std.specs.Int.{w32, to_le_bytes}
 use Rattle.std.proofs.lemmas.List.{append-nil}
 use Rattle.std.proofs.lemmas.Result.{err_from_is_err_and}
-use Rattle.kmp_base.proofs.StreamLemmas.{writes_then, writes_stop, writes_as}
+use Rattle.kmp_base.proofs.StreamLaws.{writes_then, writes_stop, writes_as}
 use Rattle.image_file.specs.Value.{image_bytes}
 use Rattle.image_file.proofs.SpellingLaws.{one_more, bytes_so_far, bytes_of_all}
 use Rattle.image_file.proofs.write.write_image.Goals as goal

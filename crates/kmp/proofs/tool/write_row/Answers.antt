@@ -1,6 +1,6 @@
 use Rattle.std.proofs.Common.{refl}
 use Rattle.std.specs.Prelude.{Ok, Err}
-use Rattle.kmp_base.proofs.StreamLemmas.{writes_as}
+use Rattle.kmp_base.proofs.StreamLaws.{writes_as}
 use Rattle.kmp.proofs.tool.write_row.Goals as goal
 
 pub returns-in-Ok : goal.returns-in-Ok

@@ -1,6 +1,6 @@
 use Rattle.std.specs.Cmp.Lexicographic.{other_text}
 use Rattle.std.proofs.lemmas.Fmt.{parse-decimal}
-use Rattle.kmp_base.proofs.TextLemmas.{shown_as_read, read_without_fault}
+use Rattle.kmp_base.proofs.TextLaws.{shown_as_read, read_without_fault}
 use Rattle.kmp_base.proofs.numbers.canonical.Goals as goal
 
 pub returns-else-eq : goal.returns-else-eq

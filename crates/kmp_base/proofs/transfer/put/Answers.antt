@@ -1,6 +1,6 @@
 use Rattle.std.proofs.Common.{◌≡◌, ◌==◌, ◌∙◌, ℕ, List, ◌++◌, false, length, ap, arith, length-append}
 use Rattle.std.proofs.lemmas.List.{take_rest}
-use Rattle.kmp_base.proofs.StreamLemmas.{up_to_more}
+use Rattle.kmp_base.proofs.StreamLaws.{up_to_more}
 use Rattle.kmp_base.proofs.transfer.put.Goals as goal
 
 -- where nothing was to be appended, nothing is left to append

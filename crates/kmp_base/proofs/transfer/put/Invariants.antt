@@ -1,5 +1,5 @@
 use Rattle.std.proofs.Common.{◌≡◌, [], length}
-use Rattle.kmp_base.proofs.StreamLemmas.{AppendedUpTo}
+use Rattle.kmp_base.proofs.StreamLaws.{AppendedUpTo}
 use Rattle.kmp_base.proofs.transfer.put.Given as goal
 
 abbrev pub invariant-loop-rest : goal.invariant-loop-rest

@@ -1,5 +1,5 @@
 use Rattle.std.proofs.Common.{◌∙◌, arith, length-append, length-take}
-use Rattle.kmp_base.proofs.StreamLemmas.{took_more}
+use Rattle.kmp_base.proofs.StreamLaws.{took_more}
 use Rattle.kmp_base.proofs.transfer.read_input.Goals as goal
 
 pub returns-then-is_err : goal.returns-then-is_err

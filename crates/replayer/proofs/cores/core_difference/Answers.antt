@@ -6,7 +6,7 @@ use Rattle.access_log.specs.Items.{entries}
 use Rattle.access_log.specs.Replay.{own, memory_bytes}
 use Rattle.report_rows.specs.Ends.{EndValue, end_value}
 use Rattle.replayer.specs.Cores.{core_to}
-use Rattle.seq_machine.proofs.Reaching.{CatchesUp-place}
+use Rattle.seq_machine.proofs.ReachingLaws.{CatchesUp-place}
 use Rattle.replayer.proofs.CoreLemmas.{caught_up_to, stands, kept_at, core_rows}
 use Rattle.replayer.proofs.cores.core_difference.Goals as goal
 

@@ -1,7 +1,7 @@
 use Rattle.std.proofs.Common.{◌++◌, ◌∙◌, take, ap, arith}
 use Rattle.std.proofs.lemmas.Result.{err_from_is_err_and}
 use Rattle.kmp_base.specs.Rows.{text_of}
-use Rattle.kmp_base.proofs.StreamLemmas.{writes_then, writes_stop, writes_as}
+use Rattle.kmp_base.proofs.StreamLaws.{writes_then, writes_stop, writes_as}
 use Rattle.report_text.proofs.TextLemmas.{rows_of_ends, texts_are, cores_text_next, cores_text_rest}
 use Rattle.report_text.proofs.print.print_cores.Goals as goal
 

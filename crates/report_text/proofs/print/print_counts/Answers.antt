@@ -1,5 +1,5 @@
 use Rattle.std.proofs.lemmas.Result.{err_from_is_err_and}
-use Rattle.kmp_base.proofs.StreamLemmas.{writes_then, writes_stop, writes_as}
+use Rattle.kmp_base.proofs.StreamLaws.{writes_then, writes_stop, writes_as}
 use Rattle.report_text.proofs.TextLemmas.{text_of-append, texts_are}
 use Rattle.report_text.proofs.print.print_counts.Goals as goal
 

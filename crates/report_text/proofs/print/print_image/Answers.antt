@@ -2,7 +2,7 @@ use Rattle.std.proofs.Common.{◌≡◌, ◌+◌, ◌/◌, ◌∙◌, length, ma
 use Rattle.std.specs.List.{range_with_len}
 use Rattle.std.proofs.lemmas.Result.{err_from_is_err_and}
 use Rattle.kmp_base.specs.Rows.{row_text, text_of}
-use Rattle.kmp_base.proofs.StreamLemmas.{writes_then, writes_stop, writes_as}
+use Rattle.kmp_base.proofs.StreamLaws.{writes_then, writes_stop, writes_as}
 use Rattle.image_file.specs.Value.{image_bytes}
 use Rattle.report_rows.specs.Rows.{number_row, image_row}
 use Rattle.report_text.specs.Text.{image_rows}

@@ -4,7 +4,7 @@ use Rattle.std.proofs.lemmas.List.{take_all}
 use Rattle.std.proofs.lemmas.List.FromFn.{length-range_with_len}
 use Rattle.std.proofs.lemmas.Result.{err_from_is_err_and}
 use Rattle.kmp_base.specs.Rows.{row_text, text_of}
-use Rattle.kmp_base.proofs.StreamLemmas.{writes_as}
+use Rattle.kmp_base.proofs.StreamLaws.{writes_as}
 use Rattle.image_file.specs.Value.{image_numbers, image_bytes}
 use Rattle.report_rows.specs.Rows.{image_row}
 use Rattle.report_text.proofs.ImageLemmas.{image_row_at, drop_eight}

@@ -1,7 +1,7 @@
 use Rattle.std.proofs.Common.{map, ap}
 use Rattle.std.proofs.lemmas.Result.{err_from_is_err_and}
 use Rattle.kmp_base.specs.Rows.{text_of}
-use Rattle.kmp_base.proofs.StreamLemmas.{writes_then, writes_stop, writes_as}
+use Rattle.kmp_base.proofs.StreamLaws.{writes_then, writes_stop, writes_as}
 use Rattle.report_rows.specs.Rows.{memory_row}
 use Rattle.report_text.proofs.TextLemmas.{rows_of_ends, text_of-append}
 use Rattle.report_text.proofs.print.print_outcome.Goals as goal

@@ -1,5 +1,5 @@
 use Rattle.std.proofs.lemmas.Result.{err_from_is_err_and}
-use Rattle.kmp_base.proofs.StreamLemmas.{writes_then, writes_stop}
+use Rattle.kmp_base.proofs.StreamLaws.{writes_then, writes_stop}
 use Rattle.report_text.specs.Text.{report_rows, report_text}
 use Rattle.report_text.proofs.TextLemmas.{text_of-append}
 use Rattle.report_text.proofs.print.print_report.Goals as goal

@@ -1,6 +1,6 @@
 use Rattle.std.proofs.Common.{◌∙◌, arith}
 use Rattle.std.proofs.lemmas.Result.{err_from_is_err_and}
-use Rattle.kmp_base.proofs.StreamLemmas.{writes_cut}
+use Rattle.kmp_base.proofs.StreamLaws.{writes_cut}
 use Rattle.report_text.proofs.print.put_rows.Goals as goal
 
 pub returns-in_err-put : goal.returns-in_err-put

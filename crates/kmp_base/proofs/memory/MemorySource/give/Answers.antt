@@ -1,5 +1,5 @@
 use Rattle.std.proofs.Common.{ℕ, length-take, arith}
-use Rattle.kmp_base.proofs.StreamLemmas.{next_bytes}
+use Rattle.kmp_base.proofs.StreamLaws.{next_bytes}
 use Rattle.kmp_base.proofs.memory.MemorySource.give.Goals as goal
 
 pub returns-clause-next : goal.returns-clause-next

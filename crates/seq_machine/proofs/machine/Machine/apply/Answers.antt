@@ -1,7 +1,7 @@
 use Rattle.std.proofs.Common.{refl, ◌∙◌}
 use Rattle.seq_machine.specs.declared.Reach.TheVariants.{There, AccessAt}
-use Rattle.seq_machine.proofs.Entering.{elsewhere, entered-away, entered-made, entered-differs, as_large-entered}
-use Rattle.seq_machine.proofs.Reaching.{CatchesUp-place, CatchesUp-count, as_large-CatchesUp}
+use Rattle.seq_machine.proofs.EnteringLaws.{elsewhere, entered-away, entered-made, entered-differs, as_large-entered}
+use Rattle.seq_machine.proofs.ReachingLaws.{CatchesUp-place, CatchesUp-count, as_large-CatchesUp}
 use Rattle.seq_machine.proofs.machine.Machine.apply.Goals as goal
 
 pub returns-in-AccessAt-clause-err : goal.returns-in-AccessAt-clause-err

@@ -1,4 +1,4 @@
-use Rattle.seq_machine.proofs.Reaching.{one_answer, moved-there, moved-away, as_large-CatchesUp}
+use Rattle.seq_machine.proofs.ReachingLaws.{one_answer, moved-there, moved-away, as_large-CatchesUp}
 use Rattle.seq_machine.proofs.machine.Machine.catch_up.Goals as goal
 
 pub returns-clause-there : goal.returns-clause-there

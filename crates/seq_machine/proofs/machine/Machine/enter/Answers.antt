@@ -3,7 +3,7 @@ use Rattle.std.specs.Prelude.{Some, slice_get}
 use Rattle.std.proofs.lemmas.Option.{slice_get-get_or}
 use Rattle.std.proofs.lemmas.List.{with_items_is}
 use Rattle.seq_machine.specs.Entering.{Enters}
-use Rattle.seq_machine.proofs.Entering.{enters_in}
+use Rattle.seq_machine.proofs.EnteringLaws.{enters_in}
 use Rattle.seq_machine.proofs.machine.Machine.enter.Goals as goal
 
 pub returns : goal.returns

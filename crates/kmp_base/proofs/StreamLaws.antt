@@ -3,7 +3,7 @@ use Rattle.std.proofs.Common.{◌≡◌, ℕ, ◌+◌, ◌-◌, ◌<◌, List, [
 use Rattle.std.specs.List.{flat_map}
 use Rattle.std.proofs.lemmas.List.Concat.{flat_map-append}
 use Rattle.std.specs.Prelude.{Option, Some, None, Result, Ok, Err}
-use Rattle.std.proofs.lemmas.List.{append-nil, take-append-drop, take_at, drop-drop, take_more, flat_map_more}
+use Rattle.std.proofs.lemmas.List.{take-append-drop, take_at, drop-drop, take_more, flat_map_more}
 use Rattle.std.specs.Io.KnownBytes.{append_known, prepend_known}
 use Rattle.kmp_base.specs.Streams.{Appended, Took, Writes}
 
@@ -11,11 +11,6 @@ use Rattle.kmp_base.specs.Streams.{Appended, Took, Writes}
 pub append_known-append : (known : Option (List ℕ)) (a b : List ℕ) → append_known (append_known known a) b ≡ append_known known (a ++ b)
 append_known-append None a b = refl
 append_known-append (Some xs) a b = ap Some (append_assoc xs a b)
-
--- appending nothing
-pub append_known-nil : (known : Option (List ℕ)) → append_known known [] ≡ known
-append_known-nil None = refl
-append_known-nil (Some xs) = ap Some (append-nil xs)
 
 -- two texts in front are one
 pub prepend_known-prepend : (known : Option (List ℕ)) (a b : List ℕ) → prepend_known a (prepend_known b known) ≡ prepend_known (a ++ b) known
@@ -44,16 +39,6 @@ next_bytes bytes copy rest at n len is =
     sym (take-append-drop n (drop at bytes)) ∙ ap (λ k. take k (drop at bytes) ++ drop n (drop at bytes)) (omega arith) ∙ ap (λ front. front ++ drop n (drop at bytes)) (sym is ∙ sym (take_at copy rest n len)) ∙ ap (λ after. take n (copy ++ rest) ++ after) (drop-drop n at bytes)
 
 -- Calls that append one after another.
-
--- without a call nothing is written
-pub writes_nothing : {K T E : Type 0} {held : K → Option (List ℕ)} {faults : K → ℕ} {state : K} {value : T} → Writes {E = E} held faults state state (Ok value) []
-writes_nothing {held} {faults} {state} = record {
-  whole = sym (append_known-nil (held state));
-  no_fault = refl;
-  part = tt;
-  cause = tt;
-  later = omega arith;
-}
 
 -- a text that was written whole, and then another one
 pub writes_then : {K T U E : Type 0} {held : K → Option (List ℕ)} {faults : K → ℕ} {old mid new : K} {value : T} {result : Result U E} {a b : List ℕ} → Writes {E = E} held faults old mid (Ok value) a → Writes held faults mid new result b → Writes held faults old new result (a ++ b)

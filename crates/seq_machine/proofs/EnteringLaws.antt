@@ -19,7 +19,7 @@ use Rattle.seq_machine.specs.Reaching.{CatchesUp}
 use Rattle.seq_machine.specs.Differences.{difference_at}
 use Rattle.seq_machine.specs.Entering.{Enters, EntersIn}
 use Rattle.seq_machine.proofs.Differences.{told_not_same}
-use Rattle.seq_machine.proofs.Reaching.{IsAsLarge, not_there}
+use Rattle.seq_machine.proofs.ReachingLaws.{IsAsLarge, not_there}
 
 -- what a core makes, it makes in a machine
 pub entered_by-made : (machine : FlatMachine) (entry : Entry) (core : Core) (memory : List ℕ) (new_core : Core)
