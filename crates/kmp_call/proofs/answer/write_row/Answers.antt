@@ -1,7 +1,7 @@
 use Rattle.std.proofs.Common.{refl}
 use Rattle.std.specs.Prelude.{Ok, Err}
 use Rattle.kmp_base.proofs.StreamLemmas.{writes_as}
-use Rattle.kmp.proofs.tool.write_row.Goals as goal
+use Rattle.kmp_call.proofs.answer.write_row.Goals as goal
 
 pub returns-in-Ok : goal.returns-in-Ok
 returns-in-Ok g c = record {
