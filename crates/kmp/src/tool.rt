@@ -23,7 +23,6 @@ use kmp_call::{Status, bad_row, refuse_input, refuse_words, too_long, write_row,
 use kmp_words::{Input, LoadFault, Order, load, read_words};
 use replayer::{Verdict, check};
 use report_read::{ReportFault, read_report};
-use report_text::{NoMemory, Report, build_report, print_report, right_report_is_read};
 use std::alloc::Global;
 
 /// The most bytes of a report that is checked.
@@ -112,11 +111,7 @@ fn check_text<K: Sink>(alloc: Global, bytes: &[u8], sink: &mut K) -> Status
 {
     match read_report(alloc, bytes) {
         Ok(report) => judge(alloc, &report, sink),
-        Err(ReportFault::BadRow(line)) => write_row(
-            &bad_row(line),
-            Status::InputRefused,
-            sink,
-        ),
+        Err(ReportFault::BadRow(line)) => write_row(&bad_row(line), Status::InputRefused, sink),
         Err(ReportFault::Memory) => Status::NoMemory,
     }
 }
@@ -127,11 +122,7 @@ fn obey_replay<S: Source, K: Sink>(alloc: Global, source: &mut S, sink: &mut K) 
 {
     match read_input(alloc, source, REPORT_LIMIT) {
         Ok(bytes) => check_text(alloc, &bytes, sink),
-        Err(InputFault::TooLong) => write_row(
-            &too_long(REPORT_LIMIT),
-            Status::InputRefused,
-            sink,
-        ),
+        Err(InputFault::TooLong) => write_row(&too_long(REPORT_LIMIT), Status::InputRefused, sink),
         Err(InputFault::Failed) => Status::ReadFault,
         Err(InputFault::Memory) => Status::NoMemory,
     }

@@ -1,8 +1,3 @@
-use Rattle.std.proofs.Common.{sym, ◌∙◌, ap, subst}
-use Rattle.kmp_base.specs.Limits.{IsWithinLimits}
-use Rattle.kmp_base.specs.declared.setup.Setup.{Setup}
-use Rattle.report_text.specs.Report.{ReportValue}
-use Rattle.report_text.specs.Right.{IsRightReport}
 use Rattle.kmp_call.proofs.RunLaws.{setup_is, is_right}
 use Rattle.kmp_call.proofs.run.report_of.Goals as goal
 
