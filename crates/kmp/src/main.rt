@@ -2,8 +2,6 @@
 //! report.
 #![tactic(auto)]
 
-mod refused;
-mod status;
 mod tool;
 mod verdict;
 

@@ -6,47 +6,27 @@ ghost use Rattle.report_text.specs.Text.{report_text};
 ghost use Rattle.image_file.specs.Value.{image_bytes};
 ghost use Rattle.kmp_words.specs.Input.{ReadsAll};
 ghost use Rattle.kmp_words.specs.Words.{texts_of, words_meaning, IsRunnableSetup, IsProperInput, IsRunnable};
-ghost use Rattle.kmp.specs.Refused.{word_row, refusal_row, too_long_row, bad_row};
+ghost use Rattle.timetable.specs.Turns.{IsInTurns};
+ghost use Rattle.kmp_call.specs.Refused.{word_row, refusal_row, too_long_row, bad_row};
+ghost use Rattle.kmp_call.specs.Status.{code_of};
+ghost use Rattle.kmp_call.specs.Outcome.{IsRunDue, Answers, Finishes, RunsOut};
+ghost use Rattle.kmp_call.specs.declared.status.Status.{Status};
+ghost use Rattle.kmp_call.specs.declared.status.Status.TheVariants.{Done, InputRefused, WordsRefused, Differs};
 ghost use Rattle.kmp.specs.Replay.{agrees_row, difference_row};
-ghost use Rattle.kmp.specs.Right.{IsReportOf};
-ghost use Rattle.kmp.specs.Status.{status_of, code_of};
-ghost use Rattle.kmp.specs.Outcome.{IsRunDue, IsImageDue, IsVerdictDue, IsCheckDue, Answers, Finishes, RunsOut, Ends};
-ghost use Rattle.kmp.specs.declared.status.Status.{Status};
-ghost use Rattle.kmp.specs.declared.status.Status.TheVariants.{Done, InputRefused, WordsRefused, Differs};
+ghost use Rattle.kmp.specs.Outcome.{IsImageDue, IsVerdictDue, IsCheckDue, Ends};
 
-use crate::status::{Status, status_of};
-use crate::{refused, verdict};
+use crate::verdict;
 use core_run::run_serial;
 use image_file::{Image, write_image};
-use kmp_base::{InputFault, Row, Setup, Sink, Source, WriteFault, put, read_input};
-use kmp_words::{Input, LoadFault, Order, WordFault, load, read_words};
+use kmp_base::{InputFault, Setup, Sink, Source, WriteFault, read_input};
+use kmp_call::{Status, bad_row, refuse_input, refuse_words, too_long, write_row, write_run};
+use kmp_words::{Input, LoadFault, Order, load, read_words};
 use replayer::{Verdict, check};
 use report_read::{ReportFault, read_report};
-use report_text::{NoMemory, Report, build_report, print_report, right_report_is_read};
 use std::alloc::Global;
 
 /// The most bytes of a report that is checked.
 const REPORT_LIMIT: usize = 268_435_456;
-
-// Writes a row, behind which a status is due.
-fn write_row<K: Sink>(row: &Row, due: Status, sink: &mut K) -> Status
-    ensures { Answers K.held K.faults sink.old sink.new row.now due result }
-{
-    match put(sink, row.bytes()) {
-        Ok(()) => due,
-        Err(WriteFault) => Status::WriteFault,
-    }
-}
-
-// Writes a report.
-fn print<K: Sink>(report: &Report, sink: &mut K) -> Status
-    ensures { Answers K.held K.faults sink.old sink.new (report_text report.now) (status_of report.now) result }
-{
-    match print_report(report, sink) {
-        Ok(()) => status_of(report),
-        Err(WriteFault) => Status::WriteFault,
-    }
-}
 
 // Writes the bytes of an image.
 fn write<K: Sink>(image: &Image, sink: &mut K) -> Status
@@ -58,24 +38,13 @@ fn write<K: Sink>(image: &Image, sink: &mut K) -> Status
     }
 }
 
-// The report of the run of an image.
-fn report_of(alloc: Global, setup: &Setup, image: Image) -> Result<Report, NoMemory>
-    requires runnable { IsRunnableSetup setup.now }
-    ensures right { IfOk result (IsReportOf setup.now image) }
-{
-    let outcome = run_serial(alloc, &image, setup)?;
-    let report = build_report(alloc, setup, image, outcome)?;
-    right_report_is_read(&report);
-    Ok(report)
-}
-
-// Runs an image.
+// Runs an image in turns.
 fn run<K: Sink>(alloc: Global, setup: &Setup, image: Image, sink: &mut K) -> Status
     requires runnable { IsRunnableSetup setup.now }
-    ensures { Finishes K.held K.faults sink.old sink.new (IsRunDue setup.now (Ok image)) result ⊎ RunsOut sink.old sink.new result }
+    ensures { Finishes K.held K.faults sink.old sink.new (IsRunDue IsInTurns setup.now (Ok image)) result ⊎ RunsOut sink.old sink.new result }
 {
-    match report_of(alloc, setup, image) {
-        Ok(report) => print(&report, sink),
+    match run_serial(alloc, &image, setup) {
+        Ok(outcome) => write_run(alloc, setup, image, outcome, sink),
         Err(_) => Status::NoMemory,
     }
 }
@@ -94,11 +63,7 @@ fn obey_run<S: Source, K: Sink>(
 {
     match load(alloc, source, input) {
         Ok(image) => run(alloc, setup, image, sink),
-        Err(LoadFault::Refused(refusal)) => write_row(
-            &refused::of_input(refusal),
-            Status::InputRefused,
-            sink,
-        ),
+        Err(LoadFault::Refused(refusal)) => refuse_input(refusal, sink),
         Err(LoadFault::Read) => Status::ReadFault,
         Err(LoadFault::Memory) => Status::NoMemory,
     }
@@ -116,11 +81,7 @@ fn obey_asm<S: Source, K: Sink>(
 {
     match load(alloc, source, Input::Source(memory_lines)) {
         Ok(image) => write(&image, sink),
-        Err(LoadFault::Refused(refusal)) => write_row(
-            &refused::of_input(refusal),
-            Status::InputRefused,
-            sink,
-        ),
+        Err(LoadFault::Refused(refusal)) => refuse_input(refusal, sink),
         Err(LoadFault::Read) => Status::ReadFault,
         Err(LoadFault::Memory) => Status::NoMemory,
     }
@@ -150,11 +111,7 @@ fn check_text<K: Sink>(alloc: Global, bytes: &[u8], sink: &mut K) -> Status
 {
     match read_report(alloc, bytes) {
         Ok(report) => judge(alloc, &report, sink),
-        Err(ReportFault::BadRow(line)) => write_row(
-            &refused::bad_row(line),
-            Status::InputRefused,
-            sink,
-        ),
+        Err(ReportFault::BadRow(line)) => write_row(&bad_row(line), Status::InputRefused, sink),
         Err(ReportFault::Memory) => Status::NoMemory,
     }
 }
@@ -165,11 +122,7 @@ fn obey_replay<S: Source, K: Sink>(alloc: Global, source: &mut S, sink: &mut K) 
 {
     match read_input(alloc, source, REPORT_LIMIT) {
         Ok(bytes) => check_text(alloc, &bytes, sink),
-        Err(InputFault::TooLong) => write_row(
-            &refused::too_long(REPORT_LIMIT),
-            Status::InputRefused,
-            sink,
-        ),
+        Err(InputFault::TooLong) => write_row(&too_long(REPORT_LIMIT), Status::InputRefused, sink),
         Err(InputFault::Failed) => Status::ReadFault,
         Err(InputFault::Memory) => Status::NoMemory,
     }
@@ -210,6 +163,6 @@ pub fn tool<S: Source, K: Sink>(alloc: Global, words: &[&str], source: &mut S, s
 {
     match read_words(words) {
         Ok(order) => obey(alloc, &order, source, sink).code(),
-        Err(fault) => write_row(&refused::of_words(fault), Status::WordsRefused, sink).code(),
+        Err(fault) => refuse_words(fault, sink).code(),
     }
 }

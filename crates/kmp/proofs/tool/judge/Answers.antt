@@ -1,7 +1,7 @@
 use Rattle.std.proofs.Common.{refl, subst, inl, inr}
 use Rattle.replayer.specs.Difference.{IsDifference, IfDiffers}
 use Rattle.replayer.proofs.CheckLaws.{different_is_wrong}
-use Rattle.kmp.specs.declared.status.Status.TheVariants.{Differs}
+use Rattle.kmp_call.specs.declared.status.Status.TheVariants.{Differs}
 use Rattle.kmp.proofs.tool.judge.Goals as goal
 
 pub returns-in-Ok-Differs : goal.returns-in-Ok-Differs
@@ -13,5 +13,5 @@ returns-in-Ok-Differs g c =
       text = c.differs.result;
       due = Differs;
       is_due = inr (λ right. different_is_wrong report difference c.requires.form is right, difference, is, c.differs.ensures.row, refl);
-      answers = c.write_row-in-Ok-Differs.ensures;
+      answers = c.write_row-in-Ok-Differs.ensures.answers;
     })

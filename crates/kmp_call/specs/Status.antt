@@ -4,8 +4,8 @@ use Rattle.std.specs.List.{list_all}
 use Rattle.report_rows.specs.Ends.{EndValue}
 use Rattle.timetable.specs.Outcome.{is_halt}
 use Rattle.report_text.specs.Report.{ReportValue}
-use Rattle.kmp.specs.declared.status.Status.{Status}
-use Rattle.kmp.specs.declared.status.Status.TheVariants.{Done, OtherEnd, WordsRefused, InputRefused, ReadFault, WriteFault, NoMemory, Differs}
+use Rattle.kmp_call.specs.declared.status.Status.{Status}
+use Rattle.kmp_call.specs.declared.status.Status.TheVariants.{Done, OtherEnd, WordsRefused, InputRefused, ReadFault, WriteFault, NoMemory, Differs}
 
 abbrev pub code_of : Status → ℕ
 code_of Done = 0

@@ -2,7 +2,7 @@
 ghost use Rattle.std.specs.Prelude.{◌≡◌};
 ghost use Rattle.std.specs.List.{list_all};
 ghost use Rattle.timetable.specs.Outcome.{is_halt};
-ghost use Rattle.kmp.specs.Status.{code_of, status_of};
+ghost use Rattle.kmp_call.specs.Status.{code_of, status_of};
 
 use report_text::Report;
 use timetable::CoreEnd;

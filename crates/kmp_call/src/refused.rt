@@ -1,6 +1,6 @@
 //! The rows of refusals.
 ghost use Rattle.std.specs.Prelude.{◌≡◌, ◌≤◌, length};
-ghost use Rattle.kmp.specs.Refused.{refused_row, word_row, source_row, image_row, too_long_row, bad_row, refusal_row};
+ghost use Rattle.kmp_call.specs.Refused.{refused_row, word_row, source_row, image_row, too_long_row, bad_row, refusal_row};
 
 use asm_parse::AsmCause;
 use image_file::ImageCause;

@@ -1,2 +1,2 @@
-pub mod ReportLemmas
+pub mod RunLaws
 pub mod StatusLemmas

@@ -1,0 +1,45 @@
+-- What is due for a run, where its outcome is right.
+use Rattle.std.proofs.Common.{◌≡◌, ℕ, List, Option, Ok, refl}
+use Rattle.kmp_base.specs.declared.setup.Setup.{Setup}
+use Rattle.image_file.specs.Value.{ImageValue}
+use Rattle.access_log.specs.declared.Entry.{Entry}
+use Rattle.access_log.specs.Items.{entries}
+use Rattle.timetable.specs.Outcome.{OutcomeValue}
+use Rattle.timetable.specs.Right.{IsRight}
+use Rattle.report_text.specs.Report.{report_of}
+use Rattle.report_text.specs.Form.{IsReport}
+use Rattle.report_text.specs.Right.{IsRightReport}
+use Rattle.kmp_call.specs.Outcome.{IsReportDue, IsRunDue, Finishes}
+use Rattle.kmp_call.specs.Right.{IsReportOf}
+use Rattle.kmp_call.specs.declared.status.Status.{Status}
+
+pub setup_is : (setup : Setup) (image : ImageValue) (outcome : OutcomeValue) → (report_of setup image outcome).setup ≡ setup
+unfolding report_of
+setup_is setup image outcome = refl
+
+pub is_right : (setup : Setup) (image : ImageValue) (outcome : OutcomeValue) → IsRight setup image outcome → IsRightReport (report_of setup image outcome)
+unfolding report_of
+is_right setup image outcome right = record { outcome = outcome; right = right; is = refl }
+
+-- The report of a right outcome is the one of a run.
+is_report_of : (AreInOrder : List Entry → Type 0) (setup : Setup) (image : ImageValue) (outcome : OutcomeValue) → IsRight setup image outcome → AreInOrder (entries outcome.items)
+    → IsReport (report_of setup image outcome) → IsReportOf AreInOrder setup image (report_of setup image outcome)
+unfolding report_of
+is_report_of AreInOrder setup image outcome right turns form = record {
+  asked = refl;
+  loaded = refl;
+  right = is_right setup image outcome right;
+  form = form;
+  turns = turns;
+}
+
+-- Where it was written, what is due for the run was.
+pub run_finishes : {K : Type 0} (held : K → Option (List ℕ)) (faults : K → ℕ) (old new : K) (status : Status) (AreInOrder : List Entry → Type 0) (setup : Setup) (image : ImageValue) (outcome : OutcomeValue)
+    → IsRight setup image outcome → AreInOrder (entries outcome.items) → Finishes held faults old new (IsReportDue (report_of setup image outcome)) status
+    → Finishes held faults old new (IsRunDue AreInOrder setup (Ok image)) status
+run_finishes held faults old new status AreInOrder setup image outcome right turns finishes = record {
+  text = finishes.text;
+  due = finishes.due;
+  is_due = (report_of setup image outcome, is_report_of AreInOrder setup image outcome right turns finishes.is_due.0, finishes.is_due.1, finishes.is_due.2);
+  answers = finishes.answers;
+}

@@ -1,0 +1,4 @@
+pub mod Outcome
+pub mod Refused
+pub mod Right
+pub mod Status
