@@ -1,5 +1,5 @@
 //! One cycle of a core, and its end.
-ghost use Rattle.std.specs.Prelude.{◌≡◌, ◌≤◌, ℕ, true, false, Option, Some, IsSome, is_some, option_map};
+ghost use Rattle.std.specs.Prelude.{◌≡◌, ◌≤◌, ◌||◌, ℕ, true, false, Option, Some, IsSome, is_some, option_map};
 ghost use Rattle.access_log.specs.declared.request.Request.{Request};
 ghost use Rattle.access_log.specs.Requests.{fetch_of};
 ghost use Rattle.mem_port.specs.Engine.{IsSound};
@@ -93,15 +93,16 @@ fn take_answer<S: CoreSide>(side: &mut S, port: Port, want: Option<Request>) -> 
 }
 
 /// Makes one step where something is open.
-fn step_if_open<S: CoreSide>(side: &mut S, core: u32, is_open: bool, choice: u32) -> Option<Moved>
-    requires serves { S.serves side.old core }
-    ensures made { Makes S.serves S.makes S.leaves_others S.paid core (steps choice result) (moved_in result) side.old side.new }
-    ensures met { StepsOn core is_open result (S.view side.old core) (S.view side.new core) }
+fn step_if_open<S: CoreSide>(side: &mut S, lane: &Lane, choice: u32) -> Option<Moved>
+    requires serves { S.serves side.old lane.now.core }
+    ensures made { Makes S.serves S.makes S.leaves_others S.paid lane.now.core (steps choice result) (moved_in result) side.old side.new }
+    ensures met { StepsOn lane.now.core (lane.now.open_access || lane.now.open_fetch) result (S.view side.old lane.now.core) (S.view side.new lane.now.core) }
 {
-    if !is_open {
-        return None;
+    if lane.open_access || lane.open_fetch {
+        Some(side.step(choice))
+    } else {
+        None
     }
-    Some(side.step(choice))
 }
 
 /// The request for the word of code that an engine waits for.
@@ -144,8 +145,7 @@ fn meet<E: CoreEngine, S: CoreSide>(
     let fetched = take_answer(side, Port::Fetch(core), fetch);
     lane.open_access = is_unmet(access, reply);
     lane.open_fetch = is_unmet(fetch, fetched);
-    let is_open = lane.open_access || lane.open_fetch;
-    let step = step_if_open(side, core, is_open, choice);
+    let step = step_if_open(side, lane, choice);
     Came {
         reply,
         fetched,
