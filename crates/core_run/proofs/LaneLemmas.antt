@@ -14,6 +14,7 @@ use Rattle.mem_port.specs.declared.port.Port.{Port}
 use Rattle.mem_port.specs.declared.port.Port.TheVariants.{Fetch, Access}
 use Rattle.mem_port.specs.declared.port.Moved.{Moved}
 use Rattle.mem_port.specs.declared.port.Moved.TheVariants as moved
+use Rattle.mem_port.specs.declared.port.PortState.{PortState}
 use Rattle.mem_port.specs.declared.port.PortState.TheVariants.{Answered}
 use Rattle.mem_port.specs.declared.port.Withdrawal.{Withdrawal}
 use Rattle.mem_port.specs.declared.port.Withdrawal.TheVariants as withdrawal
@@ -22,14 +23,14 @@ use Rattle.mem_port.specs.declared.engine.Progress.TheVariants as progress
 use Rattle.mem_port.specs.Calls.{Call, Take}
 use Rattle.mem_port.specs.Engine.{EngineView, IsSound, FetchFits, ReplyFits, Rests, GoesOn, Finishes, Acts, KeepsEngine, Clocks, Drains}
 use Rattle.mem_port.specs.Loaded.{request, IsProperAccess, next_in, finish}
-use Rattle.mem_port.specs.Pace.{is_unmet, one_if, executed_by}
-use Rattle.mem_port.specs.Ports.{core_of, MayAsk, entries_of}
+use Rattle.mem_port.specs.Pace.{Pace, is_unmet, one_if, executed_by}
+use Rattle.mem_port.specs.Ports.{core_of, MayAsk, IsUnanswered, entries_of}
 use Rattle.mem_port.specs.Side.{Mark, Served, mark, Holds, Evolves, SideView, KeepsSide, LeavesPort, SideStays, SideSteps, SideTakes, SideWithdraws}
 use Rattle.mem_port.proofs.LoadedLaws.{request-asks, request-proper, request-no_stop, next-goes}
-use Rattle.mem_port.proofs.SideLaws.{mark-evolves}
+use Rattle.mem_port.proofs.SideLaws.{mark-evolves, evolves-twice}
 use Rattle.core_run.specs.declared.lane.Lane.{Lane}
 use Rattle.core_run.specs.declared.lane.Came.{Came}
-use Rattle.core_run.specs.Cycle.{opens, sends, takes, steps, cycle_calls, lane_after, moved_in, wait_left, late_reply, UsesAsks, WaitsLess}
+use Rattle.core_run.specs.Cycle.{opens, sends, takes, steps, cycle_calls, lane_after, moved_in, wait_left, late_reply, found_by, UsesAsks, WaitsLess, WasOn, IsDrained}
 use Rattle.core_run.specs.Lanes.{RunsAlone, IsCoupled, SideSends, PortHolds, StopsWhereDead, IsQuiet}
 use Rattle.core_run.specs.Meets.{Makes, Opens, TakesUp, Fits, StepsOn, Meets, Closes, entries_by}
 use Rattle.core_run.proofs.LeadLaws.{lead-append}
@@ -42,41 +43,41 @@ along P e h = subst P (sym e) h
 
 module _ {S : Type 0} (serves : S → ℕ → Type 0) (makes : Call → S → S → Type 0) (leaves : ℕ → S → S → Type 0) (pays : ℕ → ℕ → S → S → Type 0)
     (goes_on : (core : ℕ) (s t u : S) → leaves core s t → leaves core t u → leaves core s u)
-      (adds_up : (core j k : ℕ) (s t u : S) → leaves core s t → pays core j s t → pays core k t u → pays core (j + k) s u) (core : ℕ) where
-    -- Calls of which the first make no step.
-    pub makes-then : (first second : List Call) (steps : ℕ) (s t u : S) → Makes serves makes leaves pays core first 0 s t → Makes serves makes leaves pays core second steps t u
-        → Makes serves makes leaves pays core (first ++ second) steps s u
-    makes-then first second steps s t u h k =
-        let all : steps ≡ 0 + steps = omega arith in
-        record {
-          serves_on = k.serves_on;
-          lead = lead-append makes first second s t u h.lead k.lead;
-          others = goes_on core s t u h.others k.others;
-          paid = along (λ n. pays core n s u) all (adds_up core 0 steps s t u h.others h.paid k.paid);
-        }
+    (adds_up : (core j k : ℕ) (s t u : S) → leaves core s t → pays core j s t → pays core k t u → pays core (j + k) s u) (core : ℕ) where
+  -- Calls of which the first make no step.
+  pub makes-then : (first second : List Call) (steps : ℕ) (s t u : S) → Makes serves makes leaves pays core first 0 s t → Makes serves makes leaves pays core second steps t u
+      → Makes serves makes leaves pays core (first ++ second) steps s u
+  makes-then first second steps s t u h k =
+      let all : steps ≡ 0 + steps = omega arith in
+      record {
+        serves_on = k.serves_on;
+        lead = lead-append makes first second s t u h.lead k.lead;
+        others = goes_on core s t u h.others k.others;
+        paid = along (λ n. pays core n s u) all (adds_up core 0 steps s t u h.others h.paid k.paid);
+      }
 
-    -- Those of a cycle.
-    pub makes-cycle : (choice : ℕ) (e : EngineView) (lane : Lane) (came : Came) (access fetch : Option Request) (s0 s1 s2 s3 s4 s5 : S) → access ≡ e.access → fetch ≡ option_map fetch_of e.fetch
-        → Makes serves makes leaves pays core (sends (Access lane.core) (opens lane.open_access access)) 0 s0 s1
-        → Makes serves makes leaves pays core (sends (Fetch lane.core) (opens lane.open_fetch fetch)) 0 s1 s2
-        → Makes serves makes leaves pays core (takes (Access lane.core) access came.reply) 0 s2 s3
-        → Makes serves makes leaves pays core (takes (Fetch lane.core) fetch came.fetched) 0 s3 s4
-        → Makes serves makes leaves pays core (steps choice came.step) (moved_in came.step) s4 s5
-        → Makes serves makes leaves pays core (cycle_calls choice e lane came) (moved_in came.step) s0 s5
-    makes-cycle choice e lane came access fetch s0 s1 s2 s3 s4 s5 is_access is_fetch a b c d k =
-        let to = λ (calls : List Call) (s t : S). Makes serves makes leaves pays core calls 0 s t in
-        makes-then _ _ _ s0 s1 s5 (along (λ calls. to calls s0 s1) (ap (λ want. sends (Access lane.core) (opens lane.open_access want)) (sym is_access)) a)
-        (makes-then _ _ _ s1 s2 s5 (along (λ calls. to calls s1 s2) (sends-fetch (Fetch lane.core) lane.open_fetch e.fetch ∙ ap (λ want. sends (Fetch lane.core) (opens lane.open_fetch want)) (sym is_fetch)) b)
-        (makes-then _ _ _ s2 s3 s5 (along (λ calls. to calls s2 s3) (ap (λ want. takes (Access lane.core) want came.reply) (sym is_access)) c)
-        (makes-then _ _ _ s3 s4 s5 (along (λ calls. to calls s3 s4) (takes-fetch (Fetch lane.core) e.fetch came.fetched ∙ ap (λ want. takes (Fetch lane.core) want came.fetched) (sym is_fetch)) d) k)))
-      where
-        sends-fetch : (p : Port) (is_open : Bool) (want : Option ℕ) → sends p (option_map fetch_of (opens is_open want)) ≡ sends p (opens is_open (option_map fetch_of want))
-        sends-fetch p true want = refl
-        sends-fetch p false want = refl
+  -- Those of a cycle.
+  pub makes-cycle : (choice : ℕ) (e : EngineView) (lane : Lane) (came : Came) (access fetch : Option Request) (s0 s1 s2 s3 s4 s5 : S) → access ≡ e.access → fetch ≡ option_map fetch_of e.fetch
+      → Makes serves makes leaves pays core (sends (Access lane.core) (opens lane.open_access access)) 0 s0 s1
+      → Makes serves makes leaves pays core (sends (Fetch lane.core) (opens lane.open_fetch fetch)) 0 s1 s2
+      → Makes serves makes leaves pays core (takes (Access lane.core) access came.reply) 0 s2 s3
+      → Makes serves makes leaves pays core (takes (Fetch lane.core) fetch came.fetched) 0 s3 s4
+      → Makes serves makes leaves pays core (steps choice came.step) (moved_in came.step) s4 s5
+      → Makes serves makes leaves pays core (cycle_calls choice e lane came) (moved_in came.step) s0 s5
+  makes-cycle choice e lane came access fetch s0 s1 s2 s3 s4 s5 is_access is_fetch a b c d k =
+      let to = λ (calls : List Call) (s t : S). Makes serves makes leaves pays core calls 0 s t in
+      makes-then _ _ _ s0 s1 s5 (along (λ calls. to calls s0 s1) (ap (λ want. sends (Access lane.core) (opens lane.open_access want)) (sym is_access)) a)
+      (makes-then _ _ _ s1 s2 s5 (along (λ calls. to calls s1 s2) (sends-fetch (Fetch lane.core) lane.open_fetch e.fetch ∙ ap (λ want. sends (Fetch lane.core) (opens lane.open_fetch want)) (sym is_fetch)) b)
+      (makes-then _ _ _ s2 s3 s5 (along (λ calls. to calls s2 s3) (ap (λ want. takes (Access lane.core) want came.reply) (sym is_access)) c)
+      (makes-then _ _ _ s3 s4 s5 (along (λ calls. to calls s3 s4) (takes-fetch (Fetch lane.core) e.fetch came.fetched ∙ ap (λ want. takes (Fetch lane.core) want came.fetched) (sym is_fetch)) d) k)))
+    where
+      sends-fetch : (p : Port) (is_open : Bool) (want : Option ℕ) → sends p (option_map fetch_of (opens is_open want)) ≡ sends p (opens is_open (option_map fetch_of want))
+      sends-fetch p true want = refl
+      sends-fetch p false want = refl
 
-        takes-fetch : (p : Port) (want answer : Option ℕ) → takes p want answer ≡ takes p (option_map fetch_of want) answer
-        takes-fetch p None answer = refl
-        takes-fetch p (Some addr) answer = refl
+      takes-fetch : (p : Port) (want answer : Option ℕ) → takes p want answer ≡ takes p (option_map fetch_of want) answer
+      takes-fetch p None answer = refl
+      takes-fetch p (Some addr) answer = refl
 
 -- What calls leave of a side.
 
@@ -351,3 +352,56 @@ runs-acts None (progress.Stopped why) old new es sound k a fits h = runs-none ol
 -- An engine that was clocked with what came runs on as its side is.
 pub runs-clocked : (came : Came) (result : Progress) (e f : EngineView) (lane : Lane) (old new : SideView) → IsSound e → Clocks came.fetched came.reply result e f → Meets e lane came old new → RunsAlone e old.taken → RunsAlone f new.taken
 runs-clocked came result e f lane old new sound k m h = along (λ es. RunsAlone f es) m.taken (runs-acts came.reply result e f old.taken sound k.kept k.acts m.reply_fits h)
+
+-- The end of a core.
+
+-- At a stop no access is open.
+pub open-lives : (e : EngineView) (s : SideView) (lane : Lane) → IsCoupled e s lane → StopsWhereDead e → lane.open_access ≡ true → e.is_live ≡ true
+open-lives e s lane h dead on =
+    let r = open-wants lane.open_access (mark (s.port (Access lane.core))) e.access on h.access in
+    let no_stop = request-no_stop e.image e.executed e.state r.0 (h.sound.access_next r.0 r.1) in
+    elim (cases_Bool e.is_live) as (λ _. e.is_live ≡ true) [ inl l ↦ l | inr d ↦ (let stop_is = (dead d).1 in cc) ]
+  where
+    open-wants : (is_open : Bool) (port : Mark) (want : Option Request) → is_open ≡ true → PortHolds is_open port want → (r : Request) × (want ≡ Some r)
+    open-wants true port None on h = absurd h
+    open-wants true port (Some r) on h = (r, refl)
+    open-wants false port want on h = cc
+
+-- What became of a port that was seen before.
+was-before : (answer : Withdrawal) (r : Request) (before state : PortState) → Evolves before state → WasOn state r answer → WasOn before r answer
+was-before withdrawal.Withdrawn r before state (inl e) h = subst (λ (s : PortState). IsUnanswered s) e h
+was-before withdrawal.Withdrawn r before state (inr s) h = absurd (subst (λ (s : PortState). IsUnanswered s) s.1.1.1 h)
+was-before (withdrawal.Answered word) r before state e h = evolves-twice e h
+
+-- Behind the end of its access a core's fetch is open as it was.
+pub fetch-held : (e : EngineView) (lane : Lane) (access : Withdrawal) (s0 s1 : SideView) → IsCoupled e s0 lane → Closes (Access lane.core) lane.open_access e.access access s0 s1
+    → PortHolds lane.open_fetch (mark (s1.port (Fetch lane.core))) (option_map fetch_of e.fetch)
+fetch-held e lane access s0 s1 coupled a =
+    along (λ port. PortHolds lane.open_fetch port (option_map fetch_of e.fetch)) (mark-left (Access lane.core) (Fetch lane.core) s0 s1 a.other (λ e. cc) refl) coupled.fetch
+
+module _ (e : EngineView) (lane : Lane) (access fetch : Withdrawal) (s0 s1 s2 : SideView) (coupled : IsCoupled e s0 lane) (a : Closes (Access lane.core) lane.open_access e.access access s0 s1)
+    (b : Closes (Fetch lane.core) lane.open_fetch (option_map fetch_of e.fetch) fetch s1 s2) where
+  pub closed-was : lane.open_fetch ≡ true → (addr : ℕ) → e.fetch ≡ Some addr → WasOn (s0.port (Fetch lane.core)) (fetch_of addr) fetch
+  closed-was on addr want = was-before fetch (fetch_of addr) _ _ (a.other.port (Fetch lane.core) (λ e. cc) refl) (b.was on (fetch_of addr) (ap (option_map fetch_of) want))
+
+  pub closed-taken : s2.taken ≡ s0.taken ++ executed_by e.core e.access (late_reply lane.open_access access)
+  closed-taken = b.taken ∙ (append-nil s1.taken ∙ (a.taken ∙ ap (λ core. s0.taken ++ executed_by core e.access (late_reply lane.open_access access)) (sym coupled.core)))
+
+  pub closed-asks : (q : Port) → core_of q ≡ lane.core → s2.asks_left q ≡ s0.asks_left q
+  closed-asks (Fetch core) same = along (λ core. s2.asks_left (Fetch core) ≡ s0.asks_left (Fetch core)) same (b.asks ∙ a.other.asks (Fetch lane.core) (λ e. cc) refl)
+  closed-asks (Access core) same = along (λ core. s2.asks_left (Access core) ≡ s0.asks_left (Access core)) same (b.other.asks (Access lane.core) (λ e. cc) refl ∙ a.asks)
+
+runs-ends : (reply : Option ℕ) (e f : EngineView) (es : List Entry) → IsSound e → Drains reply e f → ReplyFits e.access reply → RunsAlone e es → RunsAlone f (es ++ executed_by e.core e.access reply)
+runs-ends None e f es sound d fits h = runs-none e f es (runs-rests e f es d.kept d.ends h)
+runs-ends (Some word) e f es sound d fits h = runs-finishes e.access word e f es refl sound d.kept d.ends fits h
+
+open-fits : (port : Mark) (want : Option Request) (reply : Option ℕ) → PortHolds true port want → ReplyFits want reply
+open-fits port None reply h = absurd h
+open-fits port (Some r) None h = tt
+open-fits port (Some r) (Some word) h = tt
+
+-- An engine that was drained with what became of its open access has run as its side tells.
+pub runs-drained : {E : Type 0} (view : E → EngineView) (times : Pace → E → Type 0) (is_open : Bool) (answer : Withdrawal) (e f : E) (port : Mark) (es : List Entry) → IsSound (view e)
+    → IsDrained view times is_open answer e f → PortHolds is_open port (view e).access → RunsAlone (view e) es → RunsAlone (view f) (es ++ executed_by (view e).core (view e).access (late_reply is_open answer))
+runs-drained view times true answer e f port es sound d on h = runs-ends (found_by answer) (view e) (view f) es sound d.0 (open-fits port (view e).access (found_by answer) on) h
+runs-drained view times false answer e f port es sound d on h = runs-none (view e) (view f) es (along (λ f. RunsAlone (view f) es) d h)

@@ -123,12 +123,7 @@ fn is_unmet(want: Option<Request>, answer: Option<u32>) -> bool
 }
 
 /// A cycle of a core but for the clock of its engine.
-fn meet<E: CoreEngine, S: CoreSide>(
-    engine: &E,
-    side: &mut S,
-    lane: &mut Lane,
-    choice: u32,
-) -> Came
+fn meet<E: CoreEngine, S: CoreSide>(engine: &E, side: &mut S, lane: &mut Lane, choice: u32) -> Came
     requires serves { S.serves side.old lane.old.core }
     requires coupled { IsCoupled (E.view engine.now) (S.view side.old lane.old.core) lane.old }
     requires asks { HasAsks (S.view side.old lane.old.core) lane.old }
@@ -228,5 +223,6 @@ pub fn finish<E: CoreEngine, S: CoreSide>(engine: &mut E, side: &mut S, lane: &m
     let access = close_port(side, Port::Access(lane.core), lane.open_access);
     let fetch = close_port(side, Port::Fetch(lane.core), lane.open_fetch);
     drain_open(engine, lane.open_access, access);
-    *lane = Lane::new(lane.core);
+    lane.open_access = false;
+    lane.open_fetch = false;
 }
