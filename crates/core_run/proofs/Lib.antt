@@ -1,3 +1,5 @@
+pub mod LeadLaws
+pub mod CycleLaws
 pub mod LaneLemmas
 pub mod PlainLemmas
 pub mod OwnLemmas
