@@ -6,7 +6,7 @@ use Rattle.mips_isa.specs.declared.CoreState.{CoreState}
 use Rattle.mips_isa.specs.declared.Access.{Access}
 use Rattle.mips_isa.specs.declared.Next.{Next}
 use Rattle.mips_isa.specs.declared.Next.TheVariants.{Asks, Goes}
-use Rattle.mips_isa.specs.Steps.{next_of, finish_of, start}
+use Rattle.mips_isa.specs.Steps.{next_of, finish_of}
 use Rattle.access_log.specs.declared.Core.{Core}
 use Rattle.access_log.specs.declared.Entry.{Entry}
 use Rattle.access_log.specs.Memory.{made}
@@ -34,21 +34,21 @@ unfolding own_steps
 own_steps-one code bytes e core = and_then-some (own_step code bytes e core)
 
 -- at the start
-pub comes-start : (code : List ℕ) (bytes cores core : ℕ) → ComesTo code bytes cores core [] 0 (start core cores)
+pub comes-start : (code : List ℕ) (bytes : ℕ) (start : CoreState) → ComesTo code bytes start [] 0 start
 unfolding alone own_steps
-comes-start code bytes cores core = record { is = caught_up-same code bytes (starting cores core) }
+comes-start code bytes start = record { is = caught_up-same code bytes (starting start) }
 
-comes-mid : (code : List ℕ) (bytes cores core : ℕ) (es : List Entry) (n : ℕ) (s : CoreState) → ComesTo code bytes cores core es n s
-    → (mid : Core) × (own_steps code bytes es (starting cores core) ≡ Some mid) × (caught_up code bytes n mid ≡ Some (at n s))
+comes-mid : (code : List ℕ) (bytes : ℕ) (start : CoreState) (es : List Entry) (n : ℕ) (s : CoreState) → ComesTo code bytes start es n s
+    → (mid : Core) × (own_steps code bytes es (starting start) ≡ Some mid) × (caught_up code bytes n mid ≡ Some (at n s))
 unfolding alone
-comes-mid code bytes cores core es n s h = and_then_parts (caught_up code bytes n) (own_steps code bytes es (starting cores core)) (at n s) h.is
+comes-mid code bytes start es n s h = and_then_parts (caught_up code bytes n) (own_steps code bytes es (starting start)) (at n s) h.is
 
 -- one quiet instruction more
-pub comes-goes : (code : List ℕ) (bytes cores core : ℕ) (es : List Entry) (n : ℕ) (s t : CoreState) → ComesTo code bytes cores core es n s
-    → next_of code bytes s ≡ Goes t → ComesTo code bytes cores core es (n + 1) t
+pub comes-goes : (code : List ℕ) (bytes : ℕ) (start : CoreState) (es : List Entry) (n : ℕ) (s t : CoreState) → ComesTo code bytes start es n s
+    → next_of code bytes s ≡ Goes t → ComesTo code bytes start es (n + 1) t
 unfolding alone
-comes-goes code bytes cores core es n s t h goes =
-    let mid = and_then_parts (caught_up code bytes n) (own_steps code bytes es (starting cores core)) (at n s) h.is in
+comes-goes code bytes start es n s t h goes =
+    let mid = and_then_parts (caught_up code bytes n) (own_steps code bytes es (starting start)) (at n s) h.is in
     record {
       is = rw mid.1 (caught_up-more code bytes n mid.0 (at n s) t mid.2 (ap quiet goes));
     }
@@ -60,25 +60,25 @@ own_by-due code old core c access next e =
     subst P (sym e) (rw (is_same-same (made core c.executed access old)) refl)
 
 -- one access more
-pub comes-does : (code : List ℕ) (bytes cores core : ℕ) (es : List Entry) (n : ℕ) (s : CoreState) (access : Access) (old : ℕ) → ComesTo code bytes cores core es n s
-    → next_of code bytes s ≡ Asks access → ComesTo code bytes cores core (es ++ made core n access old ∷ []) (n + 1) (finish_of code s old)
+pub comes-does : (code : List ℕ) (bytes : ℕ) (start : CoreState) (core : ℕ) (es : List Entry) (n : ℕ) (s : CoreState) (access : Access) (old : ℕ) → ComesTo code bytes start es n s
+    → next_of code bytes s ≡ Asks access → ComesTo code bytes start (es ++ made core n access old ∷ []) (n + 1) (finish_of code s old)
 unfolding alone own_step
-comes-does code bytes cores core es n s access old h asks =
-    let mid = and_then_parts (caught_up code bytes n) (own_steps code bytes es (starting cores core)) (at n s) h.is in
+comes-does code bytes start core es n s access old h asks =
+    let mid = and_then_parts (caught_up code bytes n) (own_steps code bytes es (starting start)) (at n s) h.is in
     let step : own_step code bytes (made core n access old) mid.0 ≡ Some (finished code old (at n s)) =
     rw mid.2 (own_by-due code old core (at n s) access (next_of code bytes s) asks) in
     record {
-      is = rw (own_steps-append code bytes es (made core n access old ∷ []) (starting cores core), mid.1, own_steps-one code bytes (made core n access old) mid.0, step)
+      is = rw (own_steps-append code bytes es (made core n access old ∷ []) (starting start), mid.1, own_steps-one code bytes (made core n access old) mid.0, step)
           (caught_up-same code bytes (finished code old (at n s)));
     }
 
 -- a core that comes to a state runs by itself in every order in which its own entries are these
-pub comes-alone : (code memory : List ℕ) (bytes cores core : ℕ) (order es : List Entry) (n : ℕ) (s : CoreState) → 4 * length memory ≡ bytes → own order core ≡ es → ComesTo code bytes cores core es n s
-    → RunsAlone code memory cores order core n (at n s)
-comes-alone code memory bytes cores core order es n s size owns h =
-    let P : ℕ → Type 0 = λ b. ComesTo code b cores core es n s in
-    let Q : List Entry → Type 0 = λ x. ComesTo code (4 * length memory) cores core x n s in
+pub comes-alone : (code memory : List ℕ) (bytes : ℕ) (start : CoreState) (core : ℕ) (order es : List Entry) (n : ℕ) (s : CoreState) → 4 * length memory ≡ bytes → own order core ≡ es → ComesTo code bytes start es n s
+    → RunsAlone code memory start order core n (at n s)
+comes-alone code memory bytes start core order es n s size owns h =
+    let P : ℕ → Type 0 = λ b. ComesTo code b start es n s in
+    let Q : List Entry → Type 0 = λ x. ComesTo code (4 * length memory) start x n s in
     runs (subst Q (sym owns) (subst P (sym size) h))
   where
-    runs : ComesTo code (4 * length memory) cores core (own order core) n s → RunsAlone code memory cores order core n (at n s)
-    runs h = (let mid = comes-mid code (4 * length memory) cores core (own order core) n s h in record { mid = mid.0; own_entries = mid.1; end = mid.2 })
+    runs : ComesTo code (4 * length memory) start (own order core) n s → RunsAlone code memory start order core n (at n s)
+    runs h = (let mid = comes-mid code (4 * length memory) start (own order core) n s h in record { mid = mid.0; own_entries = mid.1; end = mid.2 })

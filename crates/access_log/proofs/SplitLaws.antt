@@ -6,6 +6,7 @@ use Rattle.std.specs.List.{AllByRecursion}
 use Rattle.std.proofs.lemmas.Option.{none-some, same_Some, slice_get_within}
 use Rattle.std.proofs.lemmas.Bool.{eq-eqb}
 use Rattle.std.proofs.lemmas.List.{length-set}
+use Rattle.mips_isa.specs.declared.CoreState.{CoreState}
 use Rattle.mips_isa.specs.declared.Next.{Next}
 use Rattle.mips_isa.specs.declared.Next.TheVariants.{Stops, Asks, Goes}
 use Rattle.mips_isa.specs.Kinds.{part}
@@ -134,10 +135,10 @@ fields : (machine : FlatMachine) (code : List ℕ) → machine.code ≡ code →
 fields machine code e = ap (λ c. at c machine.cores machine.memory) e
 
 -- the order interleaves what the cores do by themselves
-gathered : (code memory : List ℕ) (cores : ℕ) (order : List Entry) (counts : List ℕ) (mid : FlatMachine) (finals : List Core) → length counts ≡ cores
-    → Split code (4 * length memory) order (start_of cores) memory mid → Ended code (4 * length memory) 0 counts mid.cores mid.memory finals
-    → Interleaves code memory cores order counts finals mid.memory
-gathered code memory cores order counts mid finals few s e = record {
+gathered : (code memory : List ℕ) (starts : List CoreState) (order : List Entry) (counts : List ℕ) (mid : FlatMachine) (finals : List Core) → length counts ≡ length starts
+    → Split code (4 * length memory) order (start_of starts) memory mid → Ended code (4 * length memory) 0 counts mid.cores mid.memory finals
+    → Interleaves code memory starts order counts finals mid.memory
+gathered code memory starts order counts mid finals few s e = record {
   within = rw length-start at s.within;
   remembers = s.remembers;
   counts_are = few;
@@ -145,37 +146,38 @@ gathered code memory cores order counts mid finals few s e = record {
   alone = alone;
 }
   where
-    alone : (c n : ℕ) (final : Core) → slice_get counts c ≡ Some n → slice_get finals c ≡ Some final → RunsAlone code memory cores order c n final
-    alone c n final counted there =
-        let within : c < cores = count_within counts cores c n few counted in
+    alone : (c n : ℕ) (start : CoreState) (final : Core) → slice_get starts c ≡ Some start → slice_get counts c ≡ Some n → slice_get finals c ≡ Some final
+        → RunsAlone code memory start order c n final
+    alone c n start final begins counted there =
+        let within : c < length starts = count_within counts (length starts) c n few counted in
         let mid_is = slice_get_some mid.cores c (rw (s.length_is, length-start) within) in
         let here : slice_get mid.cores (0 + c) ≡ Some mid_is.0 = rw zero-add mid_is.1 in
         let ends_at : caught_up code (4 * length memory) n mid_is.0 ≡ slice_get finals (0 + c) = e.each c n mid_is.0 counted here in
         let ends_here : caught_up code (4 * length memory) n mid_is.0 ≡ slice_get finals c = rw zero-add at ends_at in
         record {
           mid = mid_is.0;
-          own_entries = s.each c (starting cores c) (start_at cores c within) ∙ mid_is.1;
+          own_entries = s.each c (starting start) (start_at starts c start begins) ∙ mid_is.1;
           end = ends_here ∙ there;
         }
 
-split_at : (code memory : List ℕ) (cores : ℕ) (order : List Entry) (counts : List ℕ) (mid machine : FlatMachine) → length counts ≡ cores
-    → Split code (4 * length memory) order (start_of cores) memory mid → ended 0 counts mid ≡ Some machine
-    → Interleaves code memory cores order counts machine.cores machine.memory
-split_at code memory cores order counts mid machine few s h =
+split_at : (code memory : List ℕ) (starts : List CoreState) (order : List Entry) (counts : List ℕ) (mid machine : FlatMachine) → length counts ≡ length starts
+    → Split code (4 * length memory) order (start_of starts) memory mid → ended 0 counts mid ≡ Some machine
+    → Interleaves code memory starts order counts machine.cores machine.memory
+split_at code memory starts order counts mid machine few s h =
     let size : 4 * length mid.memory ≡ 4 * length memory = ap (λ (n : ℕ). 4 * n) (length-memory_after order memory mid.memory s.remembers) in
     let run : ended 0 counts (at code mid.cores mid.memory) ≡ Some machine = rw (fields mid code s.code_is) at h in
     let e = ended-each code (4 * length memory) 0 counts mid.cores mid.memory size (each_ends code (4 * length memory) 0 counts mid.cores mid.memory machine size run) in
     at_end e.0 e.1 run
   where
     at_end : (finals : List Core) → Ended code (4 * length memory) 0 counts mid.cores mid.memory finals → ended 0 counts (at code mid.cores mid.memory) ≡ Some machine
-        → Interleaves code memory cores order counts machine.cores machine.memory
+        → Interleaves code memory starts order counts machine.cores machine.memory
     at_end finals e run =
-        let P : FlatMachine → Type 0 = λ m. Interleaves code memory cores order counts m.cores m.memory in
-        subst P (same_Some (at code finals mid.memory) machine (rw e.run at run)) (gathered code memory cores order counts mid finals few s e)
+        let P : FlatMachine → Type 0 = λ m. Interleaves code memory starts order counts m.cores m.memory in
+        subst P (same_Some (at code finals mid.memory) machine (rw e.run at run)) (gathered code memory starts order counts mid finals few s e)
 
-pub split : (code memory : List ℕ) (cores : ℕ) (order : List Entry) (counts : List ℕ) (machine : FlatMachine) → length counts ≡ cores
-    → replay code memory cores order counts ≡ Some machine → Interleaves code memory cores order counts machine.cores machine.memory
+pub split : (code memory : List ℕ) (starts : List CoreState) (order : List Entry) (counts : List ℕ) (machine : FlatMachine) → length counts ≡ length starts
+    → replay code memory starts order counts ≡ Some machine → Interleaves code memory starts order counts machine.cores machine.memory
 unfolding replay started
-split code memory cores order counts machine few h =
-    let mid = and_then_parts (ended 0 counts) (entered_all order (started code memory cores)) machine h in
-    split_at code memory cores order counts mid.0 machine few (split_all code (4 * length memory) order (start_of cores) memory mid.0 refl mid.1) mid.2
+split code memory starts order counts machine few h =
+    let mid = and_then_parts (ended 0 counts) (entered_all order (started code memory starts)) machine h in
+    split_at code memory starts order counts mid.0 machine few (split_all code (4 * length memory) order (start_of starts) memory mid.0 refl mid.1) mid.2

@@ -6,11 +6,12 @@ use Rattle.access_log.specs.declared.Core.{Core}
 use Rattle.access_log.specs.declared.Entry.{Entry}
 use Rattle.access_log.specs.Replay.{caught_up, own_steps, starting}
 
--- Where a core of so many stands after n executed instructions, whose accesses are these entries: none where they can't be.
-unfoldable pub alone : List ℕ → ℕ → ℕ → ℕ → List Entry → ℕ → Option Core
-alone code bytes cores core entries n =
-    option_and_then (caught_up code bytes n) (own_steps code bytes entries (starting cores core))
+-- Where a core that begins in this state stands after n executed instructions, whose accesses are these entries: none where
+-- they can't be.
+unfoldable pub alone : List ℕ → ℕ → CoreState → List Entry → ℕ → Option Core
+alone code bytes start entries n =
+    option_and_then (caught_up code bytes n) (own_steps code bytes entries (starting start))
 
--- A core of so many comes after n executed instructions to a state, and its accesses on the way are these entries.
-pub record ComesTo (code : List ℕ) (bytes cores core : ℕ) (entries : List Entry) (n : ℕ) (state : CoreState) : Type 0 where
-  pub is : alone code bytes cores core entries n ≡ Some (record { state = state; executed = n })
+-- A core that begins in this state comes after n executed instructions to another, and its accesses on the way are these entries.
+pub record ComesTo (code : List ℕ) (bytes : ℕ) (start : CoreState) (entries : List Entry) (n : ℕ) (state : CoreState) : Type 0 where
+  pub is : alone code bytes start entries n ≡ Some (record { state = state; executed = n })

@@ -1,11 +1,10 @@
 -- The sequential machine: cores over one flat memory, stepped by a list of entries.
 use Rattle.std.specs.Prelude.{ℕ, zero, suc, ◌+◌, ◌-◌, ◌*◌, ◌==◌, nat_le, if◌then◌else◌, Option, Some, None, List, [], ◌∷◌, length, slice_get, slice_set, filter, map}
-use Rattle.std.specs.List.{range_with_len}
 use Rattle.std.specs.Option.{option_and_then, option_map}
 use Rattle.mips_isa.specs.declared.CoreState.{CoreState}
 use Rattle.mips_isa.specs.declared.Next.{Next}
 use Rattle.mips_isa.specs.declared.Next.TheVariants.{Stops, Asks, Goes}
-use Rattle.mips_isa.specs.Steps.{start, next_of, finish_of}
+use Rattle.mips_isa.specs.Steps.{next_of, finish_of}
 use Rattle.access_log.specs.declared.Core.{Core}
 use Rattle.access_log.specs.declared.Entry.{Entry}
 use Rattle.access_log.specs.Memory.{made, due, after, is_same}
@@ -91,18 +90,18 @@ unfoldable pub ended : ℕ → List ℕ → FlatMachine → Option FlatMachine
 ended place [] machine = Some machine
 ended place (n ∷ counts) machine = option_and_then (ended (place + 1) counts) (moved place n machine)
 
--- A core of so many at the start.
-abbrev pub starting : ℕ → ℕ → Core
-starting cores core = record { state = start core cores; executed = 0 }
+-- A core at the start, in this state.
+abbrev pub starting : CoreState → Core
+starting start = record { state = start; executed = 0 }
 
--- The machine at the start.
-unfoldable pub started : List ℕ → List ℕ → ℕ → FlatMachine
-started code memory cores = record { code = code; cores = map (starting cores) (range_with_len 0 cores); memory = memory }
+-- The machine at the start, a core for each of these states.
+unfoldable pub started : List ℕ → List ℕ → List CoreState → FlatMachine
+started code memory starts = record { code = code; cores = map starting starts; memory = memory }
 
 -- Replay: the machine that makes these entries in this order from the start, and whose cores then catch up to their counts.
-unfoldable pub replay : List ℕ → List ℕ → ℕ → List Entry → List ℕ → Option FlatMachine
-replay code memory cores order counts =
-    option_and_then (ended 0 counts) (entered_all order (started code memory cores))
+unfoldable pub replay : List ℕ → List ℕ → List CoreState → List Entry → List ℕ → Option FlatMachine
+replay code memory starts order counts =
+    option_and_then (ended 0 counts) (entered_all order (started code memory starts))
 
 -- The entries of a core, in order.
 abbrev pub own : List Entry → ℕ → List Entry

@@ -42,12 +42,8 @@ pub fn due(memory: &[u32], core: u32, nth: u32, access: &Access) -> Entry
     ensures due { result ≡ due memory.now core nth access.now }
 {
     let word = memory[(access.addr / 4) as usize];
-    made(
-        core,
-        nth,
-        access,
-        effects::part(access.kind, access.addr, word),
-    )
+    let old = effects::part(access.kind, access.addr, word);
+    made(core, nth, access, old)
 }
 
 /// Stores what an entry stored, if anything.

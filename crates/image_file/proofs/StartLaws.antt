@@ -1,7 +1,10 @@
--- How many words memory has at the start.
-use Rattle.std.proofs.Common.{◌≡◌, ℕ, ◌+◌, ◌-◌, ◌*◌, ◌/◌, ◌%◌, ◌≤◌, List, [], ◌∷◌, length, subst, arith}
+-- How many words memory has at the start, and which states the cores.
+use Rattle.std.proofs.Common.{◌≡◌, ℕ, ◌+◌, ◌-◌, ◌*◌, ◌/◌, ◌%◌, ◌≤◌, List, [], ◌∷◌, length, ◌∙◌, ap, subst, arith}
+use Rattle.std.specs.Prelude.{◌<◌, Some, slice_get}
 use Rattle.std.proofs.lemmas.Grind.{common_steps}
-use Rattle.image_file.specs.Value.{ImageValue, SegmentValue, IsGood, AreApart, memory_bytes, with_segment, with_segments, filled, start_memory}
+use Rattle.std.proofs.lemmas.Option.{slice_get-get_or}
+use Rattle.std.proofs.lemmas.List.FromFn.{get_or-map-range_with_len, length-map-range_with_len}
+use Rattle.image_file.specs.Value.{ImageValue, SegmentValue, IsGood, AreApart, memory_bytes, with_segment, with_segments, filled, start_memory, start_state, start_states}
 
 pub segment-length : (memory : List ℕ) (s : SegmentValue) → length (with_segment memory s) ≡ length memory + ((s.start / 4 - length memory) + length s.words)
 segment-length memory s = grind (arith, common_steps)
@@ -31,3 +34,13 @@ length-start_memory image good =
 
 pub bytes-start_memory : (image : ImageValue) → IsGood image → 4 * length (start_memory image) ≡ memory_bytes image
 bytes-start_memory image good = let e = length-start_memory image good in omega (arith, e)
+
+pub length-start_states : (image : ImageValue) (cores : ℕ) → length (start_states image cores) ≡ cores
+length-start_states image cores = length-map-range_with_len (λ core. start_state image core cores) 0 cores
+
+pub start_states-at : (image : ImageValue) (cores core : ℕ) → core < cores → slice_get (start_states image cores) core ≡ Some (start_state image core cores)
+start_states-at image cores core within =
+    let state = λ (c : ℕ). start_state image c cores in
+    let long : core < length (start_states image cores) = (let e : length (start_states image cores) ≡ cores = length-start_states image cores in omega arith) in
+    slice_get-get_or (start_states image cores) core (state 0) long
+    ∙ ap Some (get_or-map-range_with_len state 0 cores core core (state 0) within (omega arith))

@@ -1,7 +1,9 @@
--- What an image is, and the memory that it starts with.
-use Rattle.std.specs.Prelude.{◌≡◌, ℕ, ◌+◌, ◌-◌, ◌*◌, ◌/◌, ◌%◌, ◌^◌, ◌<◌, ◌≤◌, List, [], ◌∷◌, ◌++◌, length, replicate, flat_map}
+-- What an image is, and the memory and the cores that it starts with.
+use Rattle.std.specs.Prelude.{◌≡◌, ℕ, ◌+◌, ◌-◌, ◌*◌, ◌/◌, ◌%◌, ◌^◌, ◌<◌, ◌≤◌, List, [], ◌∷◌, ◌++◌, length, map, replicate, flat_map}
 use Rattle.std.specs.Int.{w32, to_le_bytes}
-use Rattle.mips_isa.specs.Steps.{IsCode}
+use Rattle.std.specs.List.{range_with_len}
+use Rattle.mips_isa.specs.declared.CoreState.{CoreState}
+use Rattle.mips_isa.specs.Steps.{IsCode, start}
 
 pub record SegmentValue : Type 0 where
   pub start : ℕ
@@ -69,3 +71,11 @@ filled words memory = memory ++ replicate (words - length memory) 0
 -- The memory at the start: the code from address 0 on, the segments, and zeros.
 unfoldable pub start_memory : ImageValue → List ℕ
 start_memory image = filled (2 * image.memory_lines) (with_segments image.code image.segments)
+
+-- The state in which a core of so many begins, whatever the image is.
+abbrev pub start_state : ImageValue → ℕ → ℕ → CoreState
+start_state image core cores = start core cores
+
+-- The states in which so many cores begin, by their numbers.
+abbrev pub start_states : ImageValue → ℕ → List CoreState
+start_states image cores = map (λ core. start_state image core cores) (range_with_len 0 cores)

@@ -16,6 +16,7 @@ pub mod laws;
 mod memory;
 mod read;
 mod spelling;
+mod start;
 mod write;
 
 pub use copy::copy_image;
@@ -23,6 +24,7 @@ pub use fault::{ImageCause, ImageFault};
 pub use memory::{start_memory, word_at};
 pub use read::read_image;
 pub use spelling::{Spelling, image_size};
+pub use start::start_state;
 pub use std::alloc::AllocError as NoMemory;
 use std::marker::Model;
 pub use write::write_image;

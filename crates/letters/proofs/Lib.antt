@@ -1,1 +1,3 @@
-pub mod Worked
+pub mod Deciding
+pub mod Decided
+pub mod Histories

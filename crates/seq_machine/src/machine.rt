@@ -1,9 +1,8 @@
 //! The machine and its calls.
 ghost use Rattle.std.specs.Prelude.{◌≡◌, ◌≢◌, ◌+◌, ◌-◌, ◌*◌, ◌/◌, ◌%◌, ◌^◌, ◌<◌, ◌≤◌, Some, None, length, vec_len, IfOk, OnOk, OnErr, IfErr, IfSome, slice_get, map};
-ghost use Rattle.std.specs.List.{range_with_len};
 ghost use Rattle.std.specs.Option.{option_map};
 ghost use Rattle.mips_isa.specs.Steps.{IsCode, stop_of};
-ghost use Rattle.image_file.specs.Value.{start_memory};
+ghost use Rattle.image_file.specs.Value.{start_memory, start_states};
 ghost use Rattle.access_log.specs.Memory.{word_at};
 ghost use Rattle.access_log.specs.Replay.{FlatMachine, memory_bytes, starting, started, moved, entered};
 ghost use Rattle.seq_machine.specs.Reaching.{Reaches, CatchesUp};
@@ -12,7 +11,7 @@ ghost use Rattle.seq_machine.specs.Entering.{Enters, EntersIn};
 
 use crate::{Differs, NoMemory, Reach};
 use access_log::{Core, Entry, Field, Found, due, store};
-use image_file::{Image, start_memory};
+use image_file::{Image, start_memory, start_state};
 use mips_isa::{CoreState, Next, Stop, steps};
 use std::alloc::Global;
 use std::marker::Model;
@@ -36,15 +35,15 @@ impl Model for Machine {
     ghost invariant = { λ m. IsSound (record { code = m.code.items; cores = m.cores.items; memory = m.memory.items }) };
 }
 
-/// So many cores at the start.
-fn starting_cores(alloc: Global, cores: u32) -> Result<Vec<Core>, NoMemory>
-    ensures started { IfOk result (λ v. v.items ≡ map (starting cores) (range_with_len 0 cores)) }
+/// So many cores at the start of a program.
+fn starting_cores(alloc: Global, image: &Image, cores: u32) -> Result<Vec<Core>, NoMemory>
+    ensures started { IfOk result (λ v. v.items ≡ map starting (start_states image.now cores)) }
     ensures len { IfOk result (λ v. vec_len v ≡ cores) }
 {
     let mut started = Vec::new(alloc);
     for core in 0..cores {
         started.push(Core {
-            state: steps::start(core, cores),
+            state: start_state(image, core, cores),
             executed: 0,
         })?;
     }
@@ -140,13 +139,13 @@ impl Machine {
     pub fn new(alloc: Global, image: &Image, cores: u32) -> Result<Machine, NoMemory>
         requires some_cores { 1 ≤ cores }
         requires cores { cores ≤ 8 }
-        ensures started { IfOk result (λ machine. machine ≡ started image.now.code (start_memory image.now) cores) }
+        ensures started { IfOk result (λ machine. machine ≡ started image.now.code (start_memory image.now) (start_states image.now cores)) }
         ensures cores { IfOk result (λ machine. length machine.cores ≡ cores) }
         ensures memory { IfOk result (λ machine. length machine.memory ≡ 2 * image.now.memory_lines) }
     {
         let memory = start_memory(alloc, image)?;
         let code = Vec::from_slice(alloc, &image.code)?;
-        let cores = starting_cores(alloc, cores)?;
+        let cores = starting_cores(alloc, image, cores)?;
         Ok(Machine {
             code,
             cores,

@@ -1,5 +1,2 @@
 pub mod Rows
 pub mod Outcome
-pub mod Cycles
-pub mod Right
-pub mod Turns

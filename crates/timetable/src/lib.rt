@@ -1,14 +1,13 @@
-//! What a run leaves: where each core ended, after how many cycles, and when that is right.
+//! What a run leaves: where each core ended, after how many cycles, and what was done.
 #![tactic(auto)]
 
-ghost use Rattle.std.specs.Prelude.{◌≡◌, ◌≤◌};
-ghost use Rattle.timetable.specs.Cycles.{plain_cycles};
+ghost use Rattle.std.specs.Prelude.{◌≡◌};
 
 mod rows;
 
 use access_log::History;
 use image_file::Words;
-use mips_isa::{CoreState, Next, Stop};
+use mips_isa::{CoreState, Stop};
 pub use rows::{Rows, TimeRow};
 pub use std::alloc::AllocError as NoMemory;
 use std::marker::Model;
@@ -68,16 +67,4 @@ impl Model for Outcome {
       words = outcome.words;
       items = outcome.history.items;
     } };
-}
-
-/// The cycles that an unpipelined core takes for what it does next, on memory that answers at
-/// once: one, and for an access a second one.
-pub fn plain_cycles(next: &Next) -> u32
-    ensures cycles { result ≡ plain_cycles next.now }
-    ensures bound { result ≤ 2 }
-{
-    match next {
-        Next::Asks(_) => 2,
-        Next::Goes(_) | Next::Stops(_) => 1,
-    }
 }

@@ -1,0 +1,44 @@
+-- When the outcome of a run is right.
+use Rattle.std.specs.Prelude.{◌≡◌, ℕ, ◌/◌, List, [], map, length, None, Some, slice_get}
+use Rattle.kmp_base.specs.declared.setup.Setup.{Setup}
+use Rattle.kmp_base.specs.declared.setup.MachineKind.{MachineKind}
+use Rattle.kmp_base.specs.declared.setup.MachineKind.TheVariants.{Plain}
+use Rattle.mips_isa.specs.Steps.{next_of}
+use Rattle.image_file.specs.Value.{ImageValue, memory_bytes, start_memory, start_states}
+use Rattle.access_log.specs.declared.Item.{Item}
+use Rattle.access_log.specs.Items.{entries}
+use Rattle.access_log.specs.Replay.{own, replay}
+use Rattle.letters.specs.Fold.{Follows}
+use Rattle.timetable.specs.declared.CoreEnd.{CoreEnd}
+use Rattle.timetable.specs.Outcome.{OutcomeValue, final_of}
+use Rattle.right_run.specs.Cycles.{IsPlainEnd}
+
+-- The end of a core, by the machine: an unpipelined core ends by the number of its accesses and by what it would do next, and
+-- has no timetable. On a machine that isn't there yet no end is right.
+abbrev pub EndsOn : MachineKind → ℕ → ImageValue → OutcomeValue → ℕ → CoreEnd → Type 0
+EndsOn Plain budget image outcome core ended =
+    IsPlainEnd budget (length (own (entries outcome.items) core)) (next_of image.code (memory_bytes image) ended.state) ended
+    × (ended.rows.rows ≡ [])
+EndsOn machine budget image outcome core ended = ⊥
+
+abbrev pub EndsAt : Setup → ImageValue → OutcomeValue → ℕ → CoreEnd → Type 0
+EndsAt setup image outcome core ended = EndsOn setup.machine setup.budget image outcome core ended
+
+-- The lines that the code has, of two words each.
+abbrev pub code_lines : ImageValue → ℕ
+code_lines image = length image.code / 2
+
+-- The letters, by the machine: over flat memory there are no caches. On a machine that isn't there yet no history is right.
+abbrev pub FollowsOn : MachineKind → ℕ → ImageValue → List Item → Type 0
+FollowsOn Plain cores image items = Follows None cores (code_lines image) items
+FollowsOn machine cores image items = ⊥
+
+-- The outcome of a run is right.
+pub record IsRight (setup : Setup) (image : ImageValue) (outcome : OutcomeValue) : Type 0 where
+  -- The sequential machine, stepped by the accesses in their order, comes to exactly these cores and this memory.
+  pub replays : replay image.code (start_memory image) (start_states image setup.cores) (entries outcome.items) (map (λ (ended : CoreEnd). ended.retired) outcome.cores)
+      ≡ Some (record { code = image.code; cores = map final_of outcome.cores; memory = outcome.words })
+  -- Each core ended at the first stop that it came to, or with its budget spent.
+  pub ends : (core : ℕ) (ended : CoreEnd) → slice_get outcome.cores core ≡ Some ended → EndsAt setup image outcome core ended
+  -- Each access is a hit in the caches of the machine, and each transaction is allowed.
+  pub follows : FollowsOn setup.machine setup.cores image outcome.items

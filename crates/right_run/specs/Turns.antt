@@ -1,0 +1,34 @@
+-- The order of accesses, by whose cycle comes next.
+use Rattle.std.specs.Prelude.{ℕ, ◌+◌, List, [], ◌∷◌, ◌++◌, length}
+use Rattle.kmp_base.specs.declared.setup.Setup.{Setup}
+use Rattle.kmp_base.specs.declared.setup.MachineKind.{MachineKind}
+use Rattle.kmp_base.specs.declared.setup.MachineKind.TheVariants.{Plain}
+use Rattle.kmp_base.specs.declared.setup.Turns.{Turns}
+use Rattle.kmp_base.specs.declared.setup.Turns.TheVariants.{Round}
+use Rattle.access_log.specs.declared.Entry.{Entry}
+use Rattle.access_log.specs.Replay.{own}
+use Rattle.access_log.specs.Stamps.{Stamp, IsRising}
+
+-- The cycle in which an unpipelined core makes an access, by its earlier accesses, on memory that answers at once: it has
+-- used a cycle for each instruction before and a second one for each access before; it is fetched, and then it is made.
+abbrev pub access_cycle : List Entry → Entry → ℕ
+access_cycle earlier entry = entry.nth + length earlier + 2
+
+-- Accesses behind others, each with its cycle.
+abbrev pub in_cycles : List Entry → List Entry → List Stamp
+in_cycles before [] = []
+in_cycles before (entry ∷ order) =
+    record { entry = entry; cycle = access_cycle (own before entry.core) entry } ∷ in_cycles (before ++ entry ∷ []) order
+
+-- In each round every core has a cycle, by rising number: by cycle, and in a cycle by core, each access is behind those before
+-- it.
+abbrev pub IsInRounds : List Entry → Type 0
+IsInRounds order = IsRising (in_cycles [] order)
+
+-- By the turns and the machine. In turns that no machine has yet, no order is right.
+abbrev pub IsInTurnsOn : Turns → MachineKind → List Entry → Type 0
+IsInTurnsOn Round Plain order = IsInRounds order
+IsInTurnsOn turns machine order = ⊥
+
+abbrev pub IsInTurns : Setup → List Entry → Type 0
+IsInTurns setup order = IsInTurnsOn setup.turns setup.machine order
