@@ -167,7 +167,7 @@ module _ (queue : QueueView) (m : MemoryView) (is : IsQueue queue m) where
 
   -- It is withdrawn.
 
-  left-keeps : (place : ℕ) → (left place queue).latency ≡ queue.latency
+  pub left-keeps : (place : ℕ) → (left place queue).latency ≡ queue.latency
   left-keeps zero = refl
   left-keeps (suc place) = refl
 
@@ -220,7 +220,7 @@ module _ (queue : QueueView) (m : MemoryView) (is : IsQueue queue m) where
           port = rw (left-waiting place) (shown-at (place_in (remove queue.waiting place) p) (n.port p) Closed (place-removed_self queue.waiting p place is.distinct at) leaves.port);
           asks = leaves.asks;
           history = leaves.history;
-          busy = λ busy. rw (was-busy p place at) tt;
+          busy = λ busy. was-busy p place at;
           load = λ told. rw (left-keeps place) (load-leaves queue.latency queue.steps_left (queue.latency - (left place queue).steps_left) (asked_in m) (asked_in n) is.few_left (one-fewer p place n at leaves.kept leaves.others.ports (ap pending leaves.port)));
         },
       )
