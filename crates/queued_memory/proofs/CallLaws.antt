@@ -3,7 +3,6 @@ use Rattle.std.proofs.Common.{◌≡◌, ◌≢◌, ℕ, zero, suc, ◌+◌, ◌
 use Rattle.std.specs.Prelude.{◌%◌, ◌==◌, nat_lt, not, ◌&&◌, if◌then◌else◌}
 use Rattle.std.specs.List.{remove}
 use Rattle.std.proofs.lemmas.Bool.{lt-ltb, le-ltb}
-use Rattle.std.proofs.lemmas.Bool.Decides.{nat_tests}
 use Rattle.std.proofs.lemmas.List.{length_push}
 use Rattle.std.proofs.Math.Nat.{mul-le-mul_left}
 use Rattle.access_log.specs.declared.request.Request.{Request}
@@ -231,18 +230,6 @@ module _ (queue : QueueView) (m : MemoryView) (is : IsQueue queue m) where
   counts-near q None some waits = absurd (no-wait m is.lawful is.at_once q waits)
   counts-near q (Some i) some waits = omega arith
 
-  pub counts-keeps : 1 < queue.steps_left → IsQueue (counted queue) m
-  counts-keeps some = record {
-    lawful = is.lawful;
-    at_once = is.at_once;
-    latency_is = is.latency_is;
-    some_left = omega arith;
-    few_left = omega (arith, is.few_left);
-    distinct = is.distinct;
-    within = is.within;
-    asked = is.asked;
-  }
-
   -- It brings the next answer nearer.
   pub counts-queued : 0 < length queue.waiting → 1 < queue.steps_left → Moves (queued queue m) (queued (counted queue) m)
   counts-queued waiting some = record {
@@ -343,12 +330,6 @@ module _ (queue : QueueView) (m : MemoryView) (is : IsQueue queue m) where
   next-is true true more = tt
   next-is true false false = tt
   next-is true false true = refl
-
-  next-low : (odd passed : Bool) (length : ℕ) → 0 < length → (if odd && not passed && nat_lt 1 length then 1 else 0) < length
-  next-low odd passed length some = grind (arith, nat_tests)
-
-  pub next-within : 0 < length queue.waiting → (choice : ℕ) → next_place choice queue < length queue.waiting
-  next-within some choice = next-low (choice % 2 == 1) queue.passed (length queue.waiting) some
 
   pub steps-answer : (choice : ℕ) (p : Port) (n : MemoryView) → place_in queue.waiting p ≡ Some (next_place choice queue) → IsLawful n → ((r : Request) → m.port p ≡ Asked r → Serves p r m n) → Moves (queued queue m) (queued (answered (next_place choice queue) queue) n)
   steps-answer choice p n at law serves =

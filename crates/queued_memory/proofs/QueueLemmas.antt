@@ -31,10 +31,6 @@ pub place-position : (ports : List Port) (q : Port) → place_in ports q ≡ pos
 place-position [] q = refl
 place-position (p ∷ ports) q = grind (arith, nat_tests, place-position ports q)
 
--- What a look at the queue finds.
-pub place-found : (waiting ports : List Port) (q : Port) (found at : Option ℕ) → waiting ≡ ports → found ≡ place_in waiting q → found ≡ at → place_in ports q ≡ at
-place-found waiting ports q found at same look is = rw (← same, ← look) is
-
 -- A queue that isn't empty.
 pub some-in : (length : ℕ) (is_empty : Bool) → is_empty ≡ (length == 0) → is_empty ≡ false → 0 < length
 some-in length is_empty look isnt = grind (arith, nat_tests)
