@@ -1,5 +1,5 @@
 -- A memory in which served requests wait in a queue keeps the law.
-use Rattle.std.proofs.Common.{◌≡◌, ◌≢◌, ℕ, ◌+◌, ◌-◌, ◌*◌, ◌<◌, ◌≤◌, inl, inr, true, Option, Some, None, List, [], ◌∷◌, ◌++◌, length, refl, ap, sym, ◌∙◌, subst, arith}
+use Rattle.std.proofs.Common.{◌≡◌, ◌≢◌, ℕ, zero, suc, ◌+◌, ◌-◌, ◌*◌, ◌<◌, ◌≤◌, inl, inr, Bool, true, false, Option, Some, None, option_map, List, [], ◌∷◌, ◌++◌, length, refl, ap, sym, ◌∙◌, subst, arith}
 use Rattle.std.specs.List.{remove}
 use Rattle.std.proofs.Math.Nat.{mul-le-mul_left}
 use Rattle.image_file.specs.Value.{ImageValue}
@@ -14,8 +14,8 @@ use Rattle.mem_port.specs.Ports.{core_of, IsWaiting, HoldsProper, HoldsCode, Hol
 use Rattle.mem_port.specs.Flat.{pending}
 use Rattle.mem_port.specs.Memory.{MemoryView, IsLawful, IsAtOnce, Keeps, steps_of_request}
 use Rattle.mem_port.proofs.PortLaws.{cases_port}
-use Rattle.queued_memory.specs.Queue.{place_in, some_wait, shown, steps_to, asked_in, queued, IsQueue, StaysFresh}
-use Rattle.queued_memory.proofs.QueueLemmas.{place-push_other, place-within, place-removed_self, place-removed_other, IsSooner, distinct-push, distinct-removed, over-change, over-mono, over-two, over-zero, standing, length-standing}
+use Rattle.queued_memory.specs.Queue.{QueueView, place_in, some_wait, empty, joined, shown, answers_before, steps_to, asked_in, queued, IsQueue, StaysFresh}
+use Rattle.queued_memory.proofs.QueueLemmas.{place-push_other, place-within, place-removed_self, place-removed_other, stood_at, distinct-push, distinct-removed, over-change, over-mono, over-two, over-zero, standing, length-standing}
 
 -- A request that is asked and not served.
 pub asked-is : (s : PortState) → pending s ≡ 1 → (r : Request) × (s ≡ Asked r)
@@ -66,15 +66,13 @@ shown-entry core own (Some i) (Answered r word) holds = holds
 shown-entry core own (Some i) Closed holds = holds
 
 -- The same is shown at any place.
-pub shown-sooner : (old new : Option ℕ) (s : PortState) → IsSooner old new → shown new s ≡ shown old s
-shown-sooner None None s sooner = refl
-shown-sooner None (Some j) s sooner = absurd sooner
-shown-sooner (Some i) None s sooner = absurd sooner
-shown-sooner (Some i) (Some j) Free sooner = refl
-shown-sooner (Some i) (Some j) (Asked r) sooner = refl
-shown-sooner (Some i) (Some j) (Waiting r) sooner = refl
-shown-sooner (Some i) (Some j) (Answered r word) sooner = refl
-shown-sooner (Some i) (Some j) Closed sooner = refl
+pub shown-moved : (move : ℕ → ℕ) (place : Option ℕ) (s : PortState) → shown (option_map move place) s ≡ shown place s
+shown-moved move None s = refl
+shown-moved move (Some i) Free = refl
+shown-moved move (Some i) (Asked r) = refl
+shown-moved move (Some i) (Waiting r) = refl
+shown-moved move (Some i) (Answered r word) = refl
+shown-moved move (Some i) Closed = refl
 
 -- Numbers of steps.
 
@@ -93,9 +91,19 @@ load-falls latency old new asked few e some = omega (arith, mul-le-mul_left late
 pub load-answers : (latency steps old new : ℕ) → 1 ≤ steps → steps ≤ latency → old ≡ new + 1 → (latency * new - (latency - latency)) + 1 ≤ latency * old - (latency - steps)
 load-answers latency steps old new some few e = omega (arith, ap (λ k. latency * k) e)
 
-place-near : (latency steps cores place : ℕ) → 1 ≤ steps → steps ≤ latency → place < 2 * cores → (1 ≤ steps + latency * place) × (steps + latency * place ≤ latency * (2 * cores))
-place-near latency steps cores place some few within =
-    let below : place + 1 ≤ 2 * cores = omega arith in
+few-before : (place : ℕ) (passed : Bool) → answers_before place passed ≤ place + 1
+few-before zero true = omega arith
+few-before zero false = omega arith
+few-before (suc place) passed = omega arith
+
+-- Before a first one that wasn't passed over there may be an answer.
+pub before-unpassed : (place : ℕ) → answers_before place false ≡ place + 1
+before-unpassed zero = refl
+before-unpassed (suc place) = omega arith
+
+place-near : (latency steps cores place before : ℕ) → 1 ≤ steps → steps ≤ latency → place < 2 * cores → before ≤ place + 1 → (1 ≤ steps + latency * before) × (steps + latency * before ≤ latency * (2 * cores + 1))
+place-near latency steps cores place before some few within fits =
+    let below : before ≤ 2 * cores = omega arith in
     (omega arith, omega (arith, mul-le-mul_left latency below))
 
 -- How many requests are asked inside.
@@ -109,11 +117,6 @@ pub asked-change : (p : Port) (m n : MemoryView) → core_of p < m.cores → n.c
 asked-change p m n below cores same =
     rw cores (over-change (λ q. pending (n.port q)) (λ q. pending (m.port q)) p m.cores below (λ q ne. ap pending (same q ne)))
 
-stood : (old new : Option ℕ) (j : ℕ) → IsSooner old new → new ≡ Some j → (i : ℕ) × (old ≡ Some i)
-stood None None j sooner is = cc
-stood None (Some k) j sooner is = absurd sooner
-stood (Some i) new j sooner is = (i, refl)
-
 pub some-busy : (waiting : List Port) → 0 < length waiting → some_wait waiting ≡ true
 some-busy [] some = absurd (omega arith)
 some-busy (p ∷ waiting) some = refl
@@ -124,100 +127,101 @@ no-wait m law once q waits = let near = law.near once.told q waits in absurd (om
 pub once-kept : (m n : MemoryView) → Keeps m n → IsAtOnce m → IsAtOnce n
 once-kept m n kept once = record { told = kept.tells_distances ∙ once.told; bound = kept.bound ∙ once.bound }
 
-module _ (latency : ℕ) (waiting : List Port) (steps : ℕ) (m : MemoryView) (queue : IsQueue latency waiting steps m) where
-  pub asked-many : length waiting ≤ asked_in m
+module _ (queue : QueueView) (m : MemoryView) (is : IsQueue queue m) where
+  pub asked-many : length queue.waiting ≤ asked_in m
   asked-many =
       omega (
         arith,
-        length-standing waiting m.cores queue.distinct queue.within,
-        over-mono (λ q. standing (place_in waiting q)) (λ q. pending (m.port q)) m.cores (λ q. standing-asked (place_in waiting q) (pending (m.port q)) (queue.asked q)),
+        length-standing queue.waiting m.cores is.distinct is.within,
+        over-mono (λ q. standing (place_in queue.waiting q)) (λ q. pending (m.port q)) m.cores (λ q. standing-asked (place_in queue.waiting q) (pending (m.port q)) (is.asked q)),
       )
 
   -- A queue is no longer than all ports are many.
-  pub queue-few : length waiting ≤ 2 * m.cores
+  pub queue-few : length queue.waiting ≤ 2 * m.cores
   queue-few = omega (arith, asked-many, over-two (λ q. pending (m.port q)) m.cores (λ q. pending-few (m.port q)))
 
-  waits-busy : (q : Port) (place : Option ℕ) → place_in waiting q ≡ place → IsWaiting (shown place (m.port q)) → some_wait waiting ≡ true
-  waits-busy q None is waits = absurd (no-wait m queue.lawful queue.at_once q waits)
-  waits-busy q (Some i) is waits = some-busy waiting (omega (arith, place-within waiting q i is))
+  waits-busy : (q : Port) (place : Option ℕ) → place_in queue.waiting q ≡ place → IsWaiting (shown place (m.port q)) → some_wait queue.waiting ≡ true
+  waits-busy q None at waits = absurd (no-wait m is.lawful is.at_once q waits)
+  waits-busy q (Some i) at waits = some-busy queue.waiting (omega (arith, place-within queue.waiting q i at))
 
-  waits-near : (q : Port) (place : Option ℕ) → place_in waiting q ≡ place → IsWaiting (shown place (m.port q)) → (1 ≤ steps_to latency steps place) × (steps_to latency steps place ≤ latency * (2 * m.cores))
-  waits-near q None is waits = absurd (no-wait m queue.lawful queue.at_once q waits)
-  waits-near q (Some i) is waits = place-near latency steps m.cores i queue.some_left queue.few_left (omega (arith, place-within waiting q i is, queue-few))
+  waits-near : (q : Port) (place : Option ℕ) → place_in queue.waiting q ≡ place → IsWaiting (shown place (m.port q)) → (1 ≤ steps_to queue place) × (steps_to queue place ≤ queue.latency * (2 * m.cores + 1))
+  waits-near q None at waits = absurd (no-wait m is.lawful is.at_once q waits)
+  waits-near q (Some i) at waits =
+      place-near queue.latency queue.steps_left m.cores i (answers_before i queue.passed) is.some_left is.few_left (omega (arith, place-within queue.waiting q i at, queue-few)) (few-before i queue.passed)
 
   -- The law of the whole.
-  pub queued-lawful : IsLawful (queued latency waiting steps m)
+  pub queued-lawful : IsLawful (queued queue m)
   queued-lawful = record {
-    good = queue.lawful.good;
-    legal = queue.lawful.legal;
-    follows = queue.lawful.follows;
-    within = queue.lawful.within;
-    proper = λ q. shown-proper m.image q (place_in waiting q) (m.port q) (queue.lawful.proper q);
-    fetched = λ core. shown-code m.image (place_in waiting (Fetch core)) (m.port (Fetch core)) (queue.lawful.fetched core);
-    served = λ core. shown-entry core (own_items m.history core) (place_in waiting (Access core)) (m.port (Access core)) (queue.lawful.served core);
-    waiting = λ q waits. waits-busy q (place_in waiting q) refl waits;
-    near = λ told q waits. waits-near q (place_in waiting q) refl waits;
-    unloaded = λ told free. (let none = over-zero (λ q. pending (m.port q)) m.cores (λ q. ap pending (shown-free (place_in waiting q) (m.port q) (free q))) in omega (arith, ap (λ k. latency * k) none));
+    good = is.lawful.good;
+    legal = is.lawful.legal;
+    follows = is.lawful.follows;
+    within = is.lawful.within;
+    proper = λ q. shown-proper m.image q (place_in queue.waiting q) (m.port q) (is.lawful.proper q);
+    fetched = λ core. shown-code m.image (place_in queue.waiting (Fetch core)) (m.port (Fetch core)) (is.lawful.fetched core);
+    served = λ core. shown-entry core (own_items m.history core) (place_in queue.waiting (Access core)) (m.port (Access core)) (is.lawful.served core);
+    waiting = λ q waits. waits-busy q (place_in queue.waiting q) refl waits;
+    near = λ told q waits. waits-near q (place_in queue.waiting q) refl waits;
+    unloaded = λ told free. (let none = over-zero (λ q. pending (m.port q)) m.cores (λ q. ap pending (shown-free (place_in queue.waiting q) (m.port q) (free q))) in omega (arith, ap (λ k. queue.latency * k) none));
   }
 
   -- A call on a port that doesn't stand in the queue.
-  pub queue-call : (p : Port) (n : MemoryView) → place_in waiting p ≡ None → IsLawful n → Keeps m n → ((q : Port) → q ≢ p → n.port q ≡ m.port q) → IsQueue latency waiting steps n
+  pub queue-call : (p : Port) (n : MemoryView) → place_in queue.waiting p ≡ None → IsLawful n → Keeps m n → ((q : Port) → q ≢ p → n.port q ≡ m.port q) → IsQueue queue n
   queue-call p n none law kept same = record {
     lawful = law;
-    at_once = once-kept m n kept queue.at_once;
-    latency_is = rw kept.cores queue.latency_is;
-    some_left = queue.some_left;
-    few_left = queue.few_left;
-    distinct = queue.distinct;
-    within = λ q i is. rw kept.cores (queue.within q i is);
-    asked = λ q i is. ap pending (same q (λ e. (let P : Port → Type 0 = λ r. place_in waiting r ≡ Some i in let f : None ≡ Some i = sym none ∙ subst P e is in cc))) ∙ queue.asked q i is;
+    at_once = once-kept m n kept is.at_once;
+    latency_is = rw kept.cores is.latency_is;
+    some_left = is.some_left;
+    few_left = is.few_left;
+    distinct = is.distinct;
+    within = λ q i at. rw kept.cores (is.within q i at);
+    asked = λ q i at. ap pending (same q (λ e. (let P : Port → Type 0 = λ r. place_in queue.waiting r ≡ Some i in let f : None ≡ Some i = sym none ∙ subst P e at in cc))) ∙ is.asked q i at;
   }
 
   -- A request joins the queue.
-  pub queue-joins : (p : Port) (r : Request) → place_in waiting p ≡ None → m.port p ≡ Asked r → core_of p < m.cores → IsQueue latency (waiting ++ p ∷ []) steps m
+  pub queue-joins : (p : Port) (r : Request) → place_in queue.waiting p ≡ None → m.port p ≡ Asked r → core_of p < m.cores → IsQueue (joined p queue) m
   queue-joins p r none asked below = record {
-    lawful = queue.lawful;
-    at_once = queue.at_once;
-    latency_is = queue.latency_is;
-    some_left = queue.some_left;
-    few_left = queue.few_left;
-    distinct = distinct-push waiting p queue.distinct none;
-    within = λ q i is. elim (cases_port p q) as (λ _. core_of q < m.cores) [
+    lawful = is.lawful;
+    at_once = is.at_once;
+    latency_is = is.latency_is;
+    some_left = is.some_left;
+    few_left = is.few_left;
+    distinct = distinct-push queue.waiting p is.distinct none;
+    within = λ q i at. elim (cases_port p q) as (λ _. core_of q < m.cores) [
       | inl e ↦ (let P : Port → Type 0 = λ r. core_of r < m.cores in subst P (sym e) below)
-      | inr ne ↦ queue.within q i (sym (place-push_other waiting p q ne) ∙ is)
+      | inr ne ↦ is.within q i (sym (place-push_other queue.waiting p q ne) ∙ at)
     ];
-    asked = λ q i is. elim (cases_port p q) as (λ _. pending (m.port q) ≡ 1) [
+    asked = λ q i at. elim (cases_port p q) as (λ _. pending (m.port q) ≡ 1) [
       | inl e ↦ (let P : Port → Type 0 = λ r. pending (m.port r) ≡ 1 in subst P (sym e) (ap pending asked))
-      | inr ne ↦ queue.asked q i (sym (place-push_other waiting p q ne) ∙ is)
+      | inr ne ↦ is.asked q i (sym (place-push_other queue.waiting p q ne) ∙ at)
     ];
   }
 
   -- A port that stands in the queue when another one went stood there before.
-  stood-before : (p q : Port) (place j : ℕ) → place_in waiting p ≡ Some place → place_in (remove waiting place) q ≡ Some j → (q ≢ p) × ((i : ℕ) × (place_in waiting q ≡ Some i))
-  stood-before p q place j at is =
-      let ne : q ≢ p = λ e. (let P : Port → Type 0 = λ r. place_in (remove waiting place) r ≡ Some j in let f : None ≡ Some j = sym (place-removed_self waiting p place queue.distinct at) ∙ subst P e is in cc) in
-      (ne, stood (place_in waiting q) (place_in (remove waiting place) q) j (place-removed_other waiting p q place ne at) is)
+  stood-before : (p q : Port) (place j : ℕ) → place_in queue.waiting p ≡ Some place → place_in (remove queue.waiting place) q ≡ Some j → (q ≢ p) × (place_in queue.waiting q ≡ Some (stood_at place j))
+  stood-before p q place j at later =
+      let ne : q ≢ p = λ e. (let P : Port → Type 0 = λ r. place_in (remove queue.waiting place) r ≡ Some j in let f : None ≡ Some j = sym (place-removed_self queue.waiting p place is.distinct at) ∙ subst P e later in cc) in
+      (ne, place-removed_other queue.waiting p q place ne at ∙ ap (λ t. option_map (stood_at place) t) later)
 
   -- A request leaves the queue.
-  pub queue-leaves : (p : Port) (place left : ℕ) (n : MemoryView) → place_in waiting p ≡ Some place → 1 ≤ left → left ≤ latency → IsLawful n → Keeps m n → ((q : Port) → q ≢ p → n.port q ≡ m.port q) → IsQueue latency (remove waiting place) left n
-  queue-leaves p place left n at some few law kept same = record {
+  pub queue-leaves : (p : Port) (place steps : ℕ) (passed : Bool) (n : MemoryView) → place_in queue.waiting p ≡ Some place → 1 ≤ steps → steps ≤ queue.latency → IsLawful n → Keeps m n → ((q : Port) → q ≢ p → n.port q ≡ m.port q) → IsQueue (record queue { waiting = remove queue.waiting place; steps_left = steps; passed = passed }) n
+  queue-leaves p place steps passed n at some few law kept same = record {
     lawful = law;
-    at_once = once-kept m n kept queue.at_once;
-    latency_is = rw kept.cores queue.latency_is;
+    at_once = once-kept m n kept is.at_once;
+    latency_is = rw kept.cores is.latency_is;
     some_left = some;
     few_left = few;
-    distinct = distinct-removed waiting p place queue.distinct at;
-    within = λ q j is. (let before = stood-before p q place j at is in rw kept.cores (queue.within q before.1.0 before.1.1));
-    asked = λ q j is. (let before = stood-before p q place j at is in ap pending (same q before.0) ∙ queue.asked q before.1.0 before.1.1);
+    distinct = distinct-removed queue.waiting p place is.distinct at;
+    within = λ q j later. (let before = stood-before p q place j at later in rw kept.cores (is.within q (stood_at place j) before.1));
+    asked = λ q j later. (let before = stood-before p q place j at later in ap pending (same q before.0) ∙ is.asked q (stood_at place j) before.1);
   }
 
   -- The cores are the same, while a request needs as many steps.
-  pub cores-same : (others : List Port) (left : ℕ) (n : MemoryView) → IsQueue latency others left n → n.cores ≡ m.cores
-  cores-same others left n after = omega (arith, queue.latency_is, after.latency_is)
+  pub cores-same : (later : QueueView) (n : MemoryView) → later.latency ≡ queue.latency → IsQueue later n → n.cores ≡ m.cores
+  cores-same later n same after = omega (arith, is.latency_is, after.latency_is)
 
 -- Before the first call.
 
-empty-queue : (latency : ℕ) (m : MemoryView) → IsLawful m → IsAtOnce m → latency ≡ steps_of_request m → IsQueue latency [] latency m
+empty-queue : (latency : ℕ) (m : MemoryView) → IsLawful m → IsAtOnce m → latency ≡ steps_of_request m → IsQueue (empty latency) m
 empty-queue latency m law once is = record {
   lawful = law;
   at_once = once;
@@ -229,13 +233,14 @@ empty-queue latency m law once is = record {
   asked = λ q i at. cc;
 }
 
-pub stays-fresh : (latency : ℕ) (m : MemoryView) → IsLawful m → IsAtOnce m → latency ≡ steps_of_request m → StaysFresh m (queued latency [] latency m)
+pub stays-fresh : (latency : ℕ) (m : MemoryView) → IsLawful m → IsAtOnce m → latency ≡ steps_of_request m → StaysFresh m (queued (empty latency) m)
 stays-fresh latency m law once is image cores asks caches fresh = record {
-  lawful = queued-lawful latency [] latency m (empty-queue latency m law once is);
+  lawful = queued-lawful (empty latency) m (empty-queue latency m law once is);
   image_is = fresh.image_is;
   cores_are = fresh.cores_are;
   caches_are = fresh.caches_are;
   history = fresh.history;
   ports = fresh.ports;
   asks_left = fresh.asks_left;
+  idle = refl;
 }

@@ -1,6 +1,6 @@
 -- Places in a queue, and sums over ports.
-use Rattle.std.proofs.Common.{◌≡◌, ◌≢◌, ℕ, zero, suc, ◌+◌, ◌*◌, ◌<◌, ◌≤◌, inl, inr, Bool, true, false, Option, Some, None, option_map, List, [], ◌∷◌, ◌++◌, length, get_or, refl, ap, sym, ◌∙◌, subst, arith}
-use Rattle.std.specs.Prelude.{◌==◌, if◌then◌else◌}
+use Rattle.std.proofs.Common.{◌≡◌, ◌≢◌, ℕ, zero, suc, ◌+◌, ◌*◌, ◌<◌, ◌≤◌, inl, inr, Bool, true, false, Option, Some, None, option_map, List, [], ◌∷◌, ◌++◌, length, refl, ap, sym, ◌∙◌, subst, arith}
+use Rattle.std.specs.Prelude.{◌==◌, if◌then◌else◌, slice_get}
 use Rattle.std.specs.List.{remove, position}
 use Rattle.std.proofs.lemmas.Bool.{cases_eq}
 use Rattle.std.proofs.lemmas.Bool.Decides.{nat_tests}
@@ -30,10 +30,6 @@ place-behind p q ports ne = rw (same_port-other p q ne) refl
 pub place-position : (ports : List Port) (q : Port) → place_in ports q ≡ position (λ p. same_port p q) ports
 place-position [] q = refl
 place-position (p ∷ ports) q = grind (arith, nat_tests, place-position ports q)
-
--- What a look at the queue finds.
-pub place-found : (waiting ports : List Port) (q : Port) (found at : Option ℕ) → waiting ≡ ports → found ≡ place_in waiting q → found ≡ at → place_in ports q ≡ at
-place-found waiting ports q found at same look is = rw (← same, ← look) is
 
 -- A queue that isn't empty.
 pub some-in : (length : ℕ) (is_empty : Bool) → is_empty ≡ (length == 0) → is_empty ≡ false → 0 < length
@@ -71,15 +67,6 @@ at-zero : (p q : Port) (ports : List Port) → place_in (p ∷ ports) q ≡ Some
 at-zero p q ports is =
     elim (cases_port p q) as (λ _. q ≡ p) [ inl e ↦ e | inr ne ↦ absurd (map-zero (place_in ports q) (sym (place-behind p q ports ne) ∙ is)) ]
 
--- A first port stands at the first place, and all others behind it.
-pub at-first : (ports : List Port) (p : Port) → 0 < length ports → p ≡ get_or ports 0 p → place_in ports p ≡ Some 0
-at-first [] p some is = absurd (omega arith)
-at-first (x ∷ ports) p some is = let P : Port → Type 0 = λ r. place_in (r ∷ ports) p ≡ Some 0 in subst P is (place-first p ports)
-
-pub behind-first : (ports : List Port) (p q : Port) → place_in ports p ≡ Some 0 → q ≢ p → place_in ports q ≡ option_map suc (place_in (remove ports 0) q)
-behind-first [] p q at ne = cc
-behind-first (x ∷ ports) p q at ne = place-behind x q ports (λ e. ne (e ∙ sym (at-zero x p ports at)))
-
 -- A port at a later place, or at none, is another one.
 at-other : (p q : Port) (ports : List Port) (at : Option ℕ) → at ≢ Some 0 → place_in (p ∷ ports) q ≡ at → q ≢ p
 at-other p q ports at later is e =
@@ -94,6 +81,15 @@ at-none : (p q : Port) (ports : List Port) → place_in (p ∷ ports) q ≡ None
 at-none p q ports is =
     let ne = at-other p q ports None (λ e. cc) is in (ne, map-none (place_in ports q) (sym (place-behind p q ports ne) ∙ is))
 
+-- A port stands where it is found, in a queue in which none stands twice.
+pub at-place : (ports : List Port) (p : Port) (place : ℕ) → AreDistinct ports → slice_get ports place ≡ Some p → place_in ports p ≡ Some place
+at-place [] p place distinct is = cc
+at-place (x ∷ ports) p zero distinct is = let e : x ≡ p = cc in let P : Port → Type 0 = λ r. place_in (r ∷ ports) p ≡ Some 0 in subst P (sym e) (place-first p ports)
+at-place (x ∷ ports) p (suc place) distinct is =
+    let at = at-place ports p place distinct.1 is in
+    let P : Port → Type 0 = λ r. place_in ports r ≡ None in
+    place-behind x p ports (λ e. (let f : None ≡ Some place = sym (subst P (sym e) distinct.0) ∙ at in cc)) ∙ ap (λ t. option_map suc t) at
+
 pub distinct-push : (ports : List Port) (p : Port) → AreDistinct ports → place_in ports p ≡ None → AreDistinct (ports ++ p ∷ [])
 distinct-push [] p distinct none = (refl, tt)
 distinct-push (x ∷ ports) p distinct none =
@@ -107,43 +103,42 @@ place-removed_self (x ∷ ports) p (suc place) distinct is =
     let later = at-suc x p ports place is in
     place-behind x p (remove ports place) later.0 ∙ ap (λ t. option_map suc t) (place-removed_self ports p place distinct.1 later.1)
 
--- A port stood in the queue before and does so after another one went, no later; or neither.
-abbrev pub IsSooner : Option ℕ → Option ℕ → Type 0
-IsSooner None None = Unit {0}
-IsSooner None (Some new) = ⊥
-IsSooner (Some old) None = ⊥
-IsSooner (Some old) (Some new) = new ≤ old
+-- Where a port stood before the one at a place went.
+abbrev pub stood_at : ℕ → ℕ → ℕ
+stood_at zero place = suc place
+stood_at (suc gone) zero = zero
+stood_at (suc gone) (suc place) = suc (stood_at gone place)
 
-sooner-suc : (place : Option ℕ) → IsSooner (option_map suc place) place
-sooner-suc None = tt
-sooner-suc (Some place) = omega arith
+pub stood-later : (gone place : ℕ) → place ≤ stood_at gone place
+stood-later zero place = omega arith
+stood-later (suc gone) zero = omega arith
+stood-later (suc gone) (suc place) = omega (arith, stood-later gone place)
 
-sooner-behind : (is_first : Bool) (old new : Option ℕ) → IsSooner old new → IsSooner (if is_first then Some 0 else option_map suc old) (if is_first then Some 0 else option_map suc new)
-sooner-behind true old new sooner = omega arith
-sooner-behind false None None sooner = tt
-sooner-behind false None (Some new) sooner = sooner
-sooner-behind false (Some old) None sooner = sooner
-sooner-behind false (Some old) (Some new) sooner = omega arith
+stood-behind : (gone : ℕ) (place : Option ℕ) → option_map suc (option_map (stood_at gone) place) ≡ option_map (stood_at (suc gone)) (option_map suc place)
+stood-behind gone None = refl
+stood-behind gone (Some place) = refl
 
-sooner-none : (old new : Option ℕ) → IsSooner old new → old ≡ None → new ≡ None
-sooner-none None None sooner is = refl
-sooner-none None (Some new) sooner is = absurd sooner
-sooner-none (Some old) new sooner is = cc
+stood-beside : (gone : ℕ) (is_first : Bool) (old new : Option ℕ) → old ≡ option_map (stood_at gone) new → (if is_first then Some 0 else option_map suc old) ≡ option_map (stood_at (suc gone)) (if is_first then Some 0 else option_map suc new)
+stood-beside gone true old new is = refl
+stood-beside gone false old new is = ap (λ t. option_map suc t) is ∙ stood-behind gone new
 
-pub place-removed_other : (ports : List Port) (p q : Port) (place : ℕ) → q ≢ p → place_in ports p ≡ Some place → IsSooner (place_in ports q) (place_in (remove ports place) q)
+pub place-removed_other : (ports : List Port) (p q : Port) (place : ℕ) → q ≢ p → place_in ports p ≡ Some place → place_in ports q ≡ option_map (stood_at place) (place_in (remove ports place) q)
 place-removed_other [] p q place ne is = cc
-place-removed_other (x ∷ ports) p q zero ne is =
-    let P : Option ℕ → Type 0 = λ t. IsSooner t (place_in ports q) in
-    subst P (sym (place-behind x q ports (λ e. ne (e ∙ sym (at-zero x p ports is))))) (sooner-suc (place_in ports q))
+place-removed_other (x ∷ ports) p q zero ne is = place-behind x q ports (λ e. ne (e ∙ sym (at-zero x p ports is)))
 place-removed_other (x ∷ ports) p q (suc place) ne is =
-    sooner-behind (same_port x q) (place_in ports q) (place_in (remove ports place) q) (place-removed_other ports p q place ne (at-suc x p ports place is).1)
+    stood-beside place (same_port x q) (place_in ports q) (place_in (remove ports place) q) (place-removed_other ports p q place ne (at-suc x p ports place is).1)
+
+-- A port that stood nowhere doesn't stand anywhere then.
+stood-none : (gone : ℕ) (old new : Option ℕ) → old ≡ option_map (stood_at gone) new → old ≡ None → new ≡ None
+stood-none gone old None is none = refl
+stood-none gone old (Some place) is none = cc
 
 pub distinct-removed : (ports : List Port) (p : Port) (place : ℕ) → AreDistinct ports → place_in ports p ≡ Some place → AreDistinct (remove ports place)
 distinct-removed [] p place distinct is = cc
 distinct-removed (x ∷ ports) p zero distinct is = distinct.1
 distinct-removed (x ∷ ports) p (suc place) distinct is =
     let later = at-suc x p ports place is in
-    (sooner-none _ _ (place-removed_other ports p x place (λ e. later.0 (sym e)) later.1) distinct.0, distinct-removed ports p place distinct.1 later.1)
+    (stood-none place _ _ (place-removed_other ports p x place (λ e. later.0 (sym e)) later.1) distinct.0, distinct-removed ports p place distinct.1 later.1)
 
 -- Two sums over ports are the same, where they are of each port.
 over-same : (f g : Port → ℕ) (n : ℕ) → ((q : Port) → core_of q < n → f q ≡ g q) → over_ports f n ≡ over_ports g n

@@ -1,107 +1,88 @@
-//! The queue, and the memory that it stands round.
-ghost use Rattle.std.specs.Prelude.{◌≡◌, ◌≤◌, ◌+◌, ◌*◌, true, vec_len, vec_capacity, IfOk};
-ghost use Rattle.mem_port.specs.Memory.{IsLawful, IsAtOnce};
-ghost use Rattle.queued_memory.specs.Queue.{place_in, steps_after, queued, IsQueue, StaysFresh};
-ghost use Rattle.queued_memory.specs.Props.{IsQueue-prop};
+//! The queue of the ports whose requests wait.
+ghost use Rattle.std.specs.Prelude.{◌≡◌, ◌<◌, ◌≤◌, slice_get, Some, vec_len, vec_capacity, IfOk};
+ghost use Rattle.queued_memory.specs.Queue.{seen, place_in, next_place, empty, joined, left, counted, answered};
 
-use access_log::{History, Request};
-use image_file::Words;
-use mem_port::{MemoryCore, Moved, NoMemory, Port, Withdrawal};
+use mem_port::{NoMemory, Port};
 use std::alloc::Global;
 
-/// A memory round one that answers at once. A request that is served waits in a queue, behind those
-/// that were served before, and is answered when it was the first one for `4 * cores + 3` steps.
+/// The ports whose requests wait, the first one first, and when the next one is answered.
+///
+/// An odd choice lets the second one be answered before the first, but no first one is passed over
+/// twice.
 #[derive(Drop)]
-pub struct QueuedMemory<M: MemoryCore> {
-    memory: M,
-    /// How many steps each request needs while it is the first one.
-    latency: u32,
-    /// The ports that were served, the first one first.
-    waiting: Vec<Port>,
-    /// How many steps the first one still needs.
-    steps_left: u32,
-    ghost queue: { IsQueue latency waiting.items steps_left (M.view memory) } by { IsQueue-prop latency waiting.items steps_left (M.view memory) },
-    ghost room: { 2 * (M.view memory).cores ≤ vec_capacity waiting },
+pub struct Queue {
+    /// How many steps lie between two answers.
+    pub latency: u32,
+    pub waiting: Vec<Port>,
+    /// How many steps are left before the next answer.
+    pub steps_left: u32,
+    /// Whether the first one was passed over.
+    pub passed: bool,
 }
 
-impl<M: MemoryCore> QueuedMemory<M> {
-    /// A memory with an empty queue, round one for so many cores. The room of the queue is taken
-    /// here.
-    pub fn new(alloc: Global, memory: M, cores: u32) -> Result<QueuedMemory<M>, NoMemory>
-        requires cores { cores ≤ 8 }
-        requires cores_are { (M.view memory).cores ≡ cores }
-        requires lawful { IsLawful (M.view memory) }
-        requires at_once { IsAtOnce (M.view memory) }
-        ensures fresh { IfOk result (λ m. StaysFresh (M.view memory) (⟦<QueuedMemory<M> as MemoryCore>⟧.view m)) }
-        ensures tells_distances { IfOk result (λ m. (⟦<QueuedMemory<M> as MemoryCore>⟧.view m).tells_distances ≡ true) }
-        ensures tells_load { IfOk result (λ m. (⟦<QueuedMemory<M> as MemoryCore>⟧.view m).tells_load ≡ true) }
+impl Queue {
+    /// An empty queue with room for so many ports.
+    pub fn new(alloc: Global, latency: u32, room: usize) -> Result<Queue, NoMemory>
+        ensures empty { IfOk result (λ queue. seen queue ≡ empty latency) }
+        ensures room { IfOk result (λ queue. room ≤ vec_capacity queue.waiting) }
     {
-        let latency = 4 * cores + 3;
-        Ok(QueuedMemory {
-            memory,
+        Ok(Queue {
             latency,
-            waiting: Vec::with_capacity(alloc, 2 * cores as usize)?,
+            waiting: Vec::with_capacity(alloc, room)?,
             steps_left: latency,
+            passed: false,
         })
     }
-}
 
-/// Where a port stands in a queue, counted from 0.
-fn place_in(waiting: &[Port], port: Port) -> Option<usize>
-    ensures place { result ≡ place_in waiting.now port }
-{
-    waiting.iter().position(|&other| other == port)
-}
-
-/// How many steps the first request still needs when the one at a place is gone.
-fn steps_after(place: usize, steps_left: u32, latency: u32) -> u32
-    ensures steps { result ≡ steps_after latency steps_left place }
-{
-    if place == 0 { latency } else { steps_left }
-}
-
-impl<M: MemoryCore> MemoryCore for QueuedMemory<M> {
-    ghost view = { λ m. queued m.latency m.waiting.items m.steps_left (M.view m.memory) };
-
-    fn ask(&mut self, port: Port, request: Request) {
-        self.memory.ask(port, request);
+    /// Where a port stands, counted from 0.
+    pub fn place_in(&self, port: Port) -> Option<usize>
+        ensures place { result ≡ place_in self.now.waiting.items port }
+    {
+        self.waiting.iter().position(|&other| other == port)
     }
 
-    fn serve(&mut self, port: Port) {
+    /// The place that the choice lets be answered next.
+    pub fn next_place(&self, choice: u32) -> usize
+        ensures place { result ≡ next_place choice (seen self.now) }
+    {
+        if choice % 2 == 1 && !self.passed && self.waiting.len() > 1 {
+            1
+        } else {
+            0
+        }
+    }
+
+    /// A port joins behind all others.
+    pub fn join(&mut self, port: Port)
+        requires room { vec_len self.old.waiting < vec_capacity self.old.waiting }
+        ensures queue { seen self.new ≡ joined port (seen self.old) }
+        ensures room { vec_capacity self.new.waiting ≡ vec_capacity self.old.waiting }
+    {
         self.waiting.push_reserved(port);
     }
 
-    fn step(&mut self, _choice: u32) -> Moved {
-        if self.waiting.is_empty() {
-            return Moved::Idle;
+    /// The port at a place leaves without an answer.
+    pub fn leave(&mut self, place: usize)
+        requires within { place < vec_len self.old.waiting }
+        ensures queue { seen self.new ≡ left place (seen self.old) }
+        ensures room { vec_capacity self.new.waiting ≡ vec_capacity self.old.waiting }
+    {
+        self.waiting.remove(place);
+        if place == 0 {
+            self.steps_left = self.latency;
+            self.passed = false;
         }
-        if self.steps_left > 1 {
-            self.steps_left -= 1;
-            return Moved::Moved;
-        }
-        let port = self.waiting.remove(0);
+    }
+
+    /// The port at a place leaves for its answer.
+    pub fn answer(&mut self, place: usize) -> Port
+        requires within { place < vec_len self.old.waiting }
+        ensures port { slice_get self.old.waiting.items place ≡ Some result }
+        ensures queue { seen self.new ≡ answered place (seen self.old) }
+        ensures room { vec_capacity self.new.waiting ≡ vec_capacity self.old.waiting }
+    {
         self.steps_left = self.latency;
-        self.memory.serve(port);
-        Moved::Moved
-    }
-
-    fn take(&mut self, port: Port) -> Option<u32> {
-        match place_in(&self.waiting, port) {
-            Some(_) => None,
-            None => self.memory.take(port),
-        }
-    }
-
-    fn withdraw(&mut self, port: Port) -> Withdrawal {
-        if let Some(place) = place_in(&self.waiting, port) {
-            self.waiting.remove(place);
-            self.steps_left = steps_after(place, self.steps_left, self.latency);
-            return self.memory.withdraw(port);
-        }
-        self.memory.withdraw(port)
-    }
-
-    fn settle(self) -> (Words, History) {
-        self.memory.settle()
+        self.passed = place == 1;
+        self.waiting.remove(place)
     }
 }
