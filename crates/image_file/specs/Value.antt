@@ -18,6 +18,10 @@ pub record ImageValue : Type 0 where
 abbrev pub memory_bytes : ImageValue → ℕ
 memory_bytes image = 8 * image.memory_lines
 
+-- The lines of memory that have code.
+abbrev pub code_lines : ImageValue → ℕ
+code_lines image = length image.code / 2
+
 -- a segment is spelled as where it starts, how many words it has, and these
 abbrev pub segment_numbers : SegmentValue → List ℕ
 segment_numbers segment = segment.start ∷ length segment.words ∷ segment.words

@@ -14,10 +14,6 @@ use Rattle.access_log.specs.Requests.{asked}
 abbrev pub on_code : ImageValue → ℕ → Bool
 on_code image addr = (addr % 4 == 0) && nat_lt addr (4 * length image.code)
 
--- How many lines of memory have code. A line is two words.
-abbrev pub code_lines : ImageValue → ℕ
-code_lines image = length image.code / 2
-
 -- Whether an access may be asked of memory: at its place there is no stop.
 abbrev pub IsProperAccess : ImageValue → Kind → ℕ → Type 0
 IsProperAccess image kind addr = MayAccess (4 * length image.code) (memory_bytes image) kind addr

@@ -1,6 +1,6 @@
 -- The law of a memory that serves several cores.
 use Rattle.std.specs.Prelude.{◌≡◌, ◌≢◌, ℕ, ◌+◌, ◌*◌, ◌<◌, ◌≤◌, ◌⊎◌, Bool, true, false, IsTrue, Option, Some, None, List, [], ◌∷◌, ◌++◌}
-use Rattle.image_file.specs.Value.{ImageValue, IsGood, start_memory}
+use Rattle.image_file.specs.Value.{ImageValue, IsGood, start_memory, code_lines}
 use Rattle.access_log.specs.Items.{after_items, IsLegal, own_items}
 use Rattle.access_log.specs.declared.request.Request.{Request}
 use Rattle.access_log.specs.declared.Entry.{Entry}
@@ -17,7 +17,6 @@ use Rattle.mem_port.specs.declared.port.Withdrawal.{Withdrawal}
 use Rattle.mem_port.specs.declared.port.Withdrawal.TheVariants as withdrawal
 use Rattle.mem_port.specs.declared.port.PortState.{PortState}
 use Rattle.mem_port.specs.declared.port.PortState.TheVariants.{Free, Asked, Waiting, Answered, Closed}
-use Rattle.mem_port.specs.Loaded.{code_lines}
 use Rattle.mem_port.specs.Ports.{core_of, IsWaiting, IsUnanswered, HoldsProper, HoldsCode, HoldsEntry, taken_of, items_of}
 
 -- A memory as contracts see it.
