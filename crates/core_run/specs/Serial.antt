@@ -2,7 +2,7 @@
 use Rattle.std.specs.Prelude.{◌≡◌, ℕ, ◌+◌, ◌<◌, ◌≤◌, ◌⊎◌, ◌==◌, if◌then◌else◌, Bool, true, false, ◌&&◌, not, Option, Some, None, List, ◌++◌, length, slice_get, map}
 use Rattle.std.specs.List.{AllByRecursion}
 use Rattle.mips_isa.specs.declared.Stop.{Stop}
-use Rattle.image_file.specs.Value.{ImageValue, start_memory}
+use Rattle.image_file.specs.Value.{ImageValue, start_memory, code_lines}
 use Rattle.access_log.specs.declared.Entry.{Entry}
 use Rattle.access_log.specs.declared.Item.{Item}
 use Rattle.access_log.specs.Items.{entries}
@@ -18,7 +18,7 @@ use Rattle.timetable.specs.Outcome.{OutcomeValue, final_of}
 use Rattle.mem_port.specs.declared.port.Port.TheVariants.{Fetch, Access}
 use Rattle.mem_port.specs.declared.engine.Progress.{Progress}
 use Rattle.mem_port.specs.declared.engine.Progress.TheVariants as progress
-use Rattle.mem_port.specs.Loaded.{stop, code_lines}
+use Rattle.mem_port.specs.Loaded.{stop}
 use Rattle.mem_port.specs.Calls.{Call, Ask, Serve, Step, Take, Withdraw}
 use Rattle.mem_port.specs.Memory.{MemoryView, IsAtOnce, committed}
 use Rattle.mem_port.specs.Engine.{EngineView}

@@ -1,6 +1,6 @@
 -- A memory in which one port changes, and maybe the history, keeps the law.
 use Rattle.std.proofs.Common.{◌≡◌, ◌≢◌, ℕ, ◌<◌, ◌≤◌, inl, inr, IsTrue, List, refl, ap, sym, ◌∙◌, arith, subst}
-use Rattle.image_file.specs.Value.{start_memory}
+use Rattle.image_file.specs.Value.{code_lines, start_memory}
 use Rattle.access_log.specs.Items.{IsLegal, own_items}
 use Rattle.access_log.specs.declared.Entry.{Entry}
 use Rattle.letters.specs.Fold.{Follows}
@@ -8,7 +8,6 @@ use Rattle.mem_port.specs.declared.port.Port.{Port}
 use Rattle.mem_port.specs.declared.port.Port.TheVariants.{Fetch, Access}
 use Rattle.mem_port.specs.declared.port.PortState.{PortState}
 use Rattle.mem_port.specs.declared.port.PortState.TheVariants.{Free}
-use Rattle.mem_port.specs.Loaded.{code_lines}
 use Rattle.mem_port.specs.Ports.{core_of, IsWaiting, HoldsProper, HoldsCode, HoldsEntry}
 use Rattle.mem_port.specs.Memory.{MemoryView, IsLawful, Keeps}
 use Rattle.mem_port.proofs.PortLaws.{cases_port}

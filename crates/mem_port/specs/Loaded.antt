@@ -1,5 +1,5 @@
 -- A loaded image, and the steps of a core over it.
-use Rattle.std.specs.Prelude.{ℕ, ◌*◌, ◌/◌, ◌%◌, Bool, ◌&&◌, ◌==◌, nat_lt, Option, Some, None, length}
+use Rattle.std.specs.Prelude.{ℕ, ◌*◌, ◌%◌, Bool, ◌&&◌, ◌==◌, nat_lt, Option, Some, None, length}
 use Rattle.mips_isa.specs.declared.Kind.{Kind}
 use Rattle.mips_isa.specs.declared.Stop.{Stop}
 use Rattle.mips_isa.specs.declared.CoreState.{CoreState}

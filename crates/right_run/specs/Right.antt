@@ -1,10 +1,10 @@
 -- When the outcome of a run is right.
-use Rattle.std.specs.Prelude.{◌≡◌, ℕ, ◌/◌, List, [], map, length, None, Some, slice_get}
+use Rattle.std.specs.Prelude.{◌≡◌, ℕ, List, [], map, length, None, Some, slice_get}
 use Rattle.kmp_base.specs.declared.setup.Setup.{Setup}
 use Rattle.kmp_base.specs.declared.setup.MachineKind.{MachineKind}
 use Rattle.kmp_base.specs.declared.setup.MachineKind.TheVariants.{Plain}
 use Rattle.mips_isa.specs.Steps.{next_of}
-use Rattle.image_file.specs.Value.{ImageValue, memory_bytes, start_memory, start_states}
+use Rattle.image_file.specs.Value.{ImageValue, memory_bytes, code_lines, start_memory, start_states}
 use Rattle.access_log.specs.declared.Item.{Item}
 use Rattle.access_log.specs.Items.{entries}
 use Rattle.access_log.specs.Replay.{own, replay}
@@ -23,10 +23,6 @@ EndsOn machine budget image outcome core ended = ⊥
 
 abbrev pub EndsAt : Setup → ImageValue → OutcomeValue → ℕ → CoreEnd → Type 0
 EndsAt setup image outcome core ended = EndsOn setup.machine setup.budget image outcome core ended
-
--- The lines that the code has, of two words each.
-abbrev pub code_lines : ImageValue → ℕ
-code_lines image = length image.code / 2
 
 -- The letters, by the machine: over flat memory there are no caches. On a machine that isn't there yet no history is right.
 abbrev pub FollowsOn : MachineKind → ℕ → ImageValue → List Item → Type 0
