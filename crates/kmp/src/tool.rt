@@ -23,6 +23,7 @@ use kmp_call::{Status, bad_row, refuse_input, refuse_words, too_long, write_row,
 use kmp_words::{Input, LoadFault, Order, load, read_words};
 use replayer::{Verdict, check};
 use report_read::{ReportFault, read_report};
+use report_text::Report;
 use std::alloc::Global;
 
 /// The most bytes of a report that is checked.
