@@ -1,1 +1,3 @@
+pub mod AtWork
+pub mod Eager
 pub mod Script

@@ -4,6 +4,10 @@
 #[cfg(test)]
 mod cores;
 #[cfg(test)]
+mod cycles;
+#[cfg(test)]
+mod eager;
+#[cfg(test)]
 mod histories;
 #[cfg(test)]
 mod images;

@@ -54,24 +54,24 @@ impl<M: MemoryCore> Script<M> {
         self.left -= 1;
     }
 
-    /// Makes a step, and tells whether something was moved.
-    fn step(&mut self) -> bool
+    /// Makes a step with a choice, and tells whether something was moved.
+    fn step(&mut self, choice: u32) -> bool
         requires fits { Fits self.old.made self.old.left (M.view self.old.memory) }
         ensures fits { Fits self.new.made self.new.left (M.view self.new.memory) }
     {
-        match self.memory.step(0) {
+        match self.memory.step(choice) {
             Moved::Moved => true,
             Moved::Idle => false,
         }
     }
 
-    /// Makes so many steps, each of which moves something.
-    fn steps(&mut self, rt: &impl Abort, count: u32)
+    /// Makes so many steps with a choice, each of which moves something.
+    fn steps(&mut self, rt: &impl Abort, count: u32, choice: u32)
         requires fits { Fits self.old.made self.old.left (M.view self.old.memory) }
         ensures fits { Fits self.new.made self.new.left (M.view self.new.memory) }
     {
         for _ in 0..count {
-            assert!(rt; self.step());
+            assert!(rt; self.step(choice));
         }
     }
 
@@ -159,15 +159,15 @@ fn check_waits<M: MemoryCore>(rt: &impl Abort, script: &mut Script<M>)
 {
     script.send(rt, 0, Kind::Sw, 7);
     script.send(rt, 1, Kind::Lw, 0);
-    script.steps(rt, 10);
+    script.steps(rt, 10, 0);
     assert!(rt; script.take(rt, 0).is_none());
-    script.steps(rt, 1);
+    script.steps(rt, 1, 0);
     assert!(rt; script.take(rt, 0) == Some(0));
-    script.steps(rt, 10);
+    script.steps(rt, 10, 0);
     assert!(rt; script.take(rt, 1).is_none());
-    script.steps(rt, 1);
+    script.steps(rt, 1, 0);
     assert!(rt; script.take(rt, 1) == Some(7));
-    assert!(rt; !script.step());
+    assert!(rt; !script.step(0));
 }
 
 /// Behind a request that is given up, the next one needs all its steps.
@@ -176,12 +176,35 @@ fn check_next<M: MemoryCore>(rt: &impl Abort, script: &mut Script<M>)
 {
     script.send(rt, 0, Kind::Sw, 7);
     script.send(rt, 1, Kind::Lw, 0);
-    script.steps(rt, 4);
+    script.steps(rt, 4, 0);
     assert!(rt; script.withdraw(rt, 0).is_none());
-    script.steps(rt, 10);
+    script.steps(rt, 10, 0);
     assert!(rt; script.take(rt, 1).is_none());
-    script.steps(rt, 1);
+    script.steps(rt, 1, 0);
     assert!(rt; script.take(rt, 1) == Some(0));
+}
+
+/// With an odd choice the second request is answered before the first, and the next one isn't.
+fn check_overtakes<M: MemoryCore>(rt: &impl Abort, script: &mut Script<M>)
+    requires fits { Fits script.old.made script.old.left (M.view script.old.memory) }
+{
+    script.send(rt, 0, Kind::Sw, 7);
+    script.send(rt, 1, Kind::Lw, 0);
+    script.steps(rt, 11, 1);
+    assert!(rt; script.take(rt, 0).is_none());
+    assert!(rt; script.take(rt, 1) == Some(0));
+    script.send(rt, 1, Kind::Lw, 0);
+    script.steps(rt, 11, 1);
+    assert!(rt; script.take(rt, 1).is_none());
+    assert!(rt; script.take(rt, 0) == Some(0));
+    script.send(rt, 0, Kind::Sw, 9);
+    script.steps(rt, 10, 0);
+    script.steps(rt, 1, u32::MAX);
+    assert!(rt; script.take(rt, 1).is_none());
+    assert!(rt; script.take(rt, 0) == Some(7));
+    script.steps(rt, 11, u32::MAX);
+    assert!(rt; script.take(rt, 1) == Some(9));
+    assert!(rt; !script.step(1));
 }
 
 /// What was done stays done, and what was given up is never done.
@@ -190,11 +213,11 @@ fn check_ends<M: MemoryCore>(rt: &impl Abort, mut script: Script<M>)
 {
     script.send(rt, 0, Kind::Sw, 7);
     script.send(rt, 1, Kind::Sw, 9);
-    script.steps(rt, 11);
+    script.steps(rt, 11, 0);
     assert!(rt; script.withdraw(rt, 0) == Some(0));
-    script.steps(rt, 4);
+    script.steps(rt, 4, 0);
     assert!(rt; script.withdraw(rt, 1).is_none());
-    assert!(rt; !script.step());
+    assert!(rt; !script.step(0));
     assert!(rt; script.settle(rt) == (7, Some(7)));
 }
 
@@ -202,6 +225,7 @@ fn check_ends<M: MemoryCore>(rt: &impl Abort, mut script: Script<M>)
 fn requests_wait_in_a_queue(rt: HostRuntime) -> Result<(), Fail> {
     check_waits(&rt, &mut start(&rt, rt.alloc())?);
     check_next(&rt, &mut start(&rt, rt.alloc())?);
+    check_overtakes(&rt, &mut start(&rt, rt.alloc())?);
     check_ends(&rt, start(&rt, rt.alloc())?);
     Ok(())
 }

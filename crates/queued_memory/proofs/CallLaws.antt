@@ -1,5 +1,5 @@
 -- Each call on a memory in which served requests wait is as the law says.
-use Rattle.std.proofs.Common.{◌≡◌, ◌≢◌, ℕ, zero, suc, ◌+◌, ◌-◌, ◌*◌, ◌<◌, ◌≤◌, inl, inr, Bool, true, false, IsTrue, Option, Some, None, option_map, List, [], ◌∷◌, ◌++◌, length, append-nil, refl, ap, sym, ◌∙◌, subst, arith}
+use Rattle.std.proofs.Common.{◌≡◌, ◌≢◌, ℕ, zero, suc, ◌+◌, ◌-◌, ◌*◌, ◌<◌, ◌≤◌, inl, inr, Bool, true, false, Option, Some, None, option_map, [], ◌∷◌, ◌++◌, length, append-nil, refl, ap, sym, ◌∙◌, subst, arith}
 use Rattle.std.specs.Prelude.{◌%◌, ◌==◌, nat_lt, not, ◌&&◌, if◌then◌else◌}
 use Rattle.std.specs.List.{remove}
 use Rattle.std.proofs.lemmas.Bool.{lt-ltb, le-ltb}
@@ -15,7 +15,7 @@ use Rattle.mem_port.specs.Ports.{core_of, IsWaiting, IsUnanswered, items_of}
 use Rattle.mem_port.specs.Flat.{pending}
 use Rattle.mem_port.specs.Memory.{MemoryView, IsLawful, Keeps, LeavesPorts, Asks, Serves, Moves, Leaves, Takes, Withdraws}
 use Rattle.mem_port.proofs.PortLaws.{cases_port}
-use Rattle.queued_memory.specs.Queue.{QueueView, place_in, some_wait, joined, left, counted, answered, next_place, stepped, queue_after, shown, answers_before, steps_to, asked_in, queued, IsQueue}
+use Rattle.queued_memory.specs.Queue.{QueueView, place_in, some_wait, joined, left, counted, answered, next_place, stepped, shown, steps_to, asked_in, queued, IsQueue}
 use Rattle.queued_memory.proofs.QueueLemmas.{place-push_self, place-push_other, place-within, place-removed_self, place-removed_other, stood_at, stood-later}
 use Rattle.queued_memory.proofs.QueueLaws.{asked-is, asked-change, asked-many, before-unpassed, queue-few, queue-call, queue-joins, queue-leaves, no-wait, once-kept, shown-moved, load-rises, load-stays, load-leaves, load-falls, load-answers, some-busy}
 
@@ -169,10 +169,6 @@ module _ (queue : QueueView) (m : MemoryView) (is : IsQueue queue m) where
   pub left-keeps : (place : ℕ) → (left place queue).latency ≡ queue.latency
   left-keeps zero = refl
   left-keeps (suc place) = refl
-
-  left-few : (place : ℕ) → (left place queue).steps_left ≤ queue.latency
-  left-few zero = omega arith
-  left-few (suc place) = is.few_left
 
   left-waiting : (place : ℕ) → (left place queue).waiting ≡ remove queue.waiting place
   left-waiting zero = refl

@@ -13,9 +13,9 @@ use std::alloc::Global;
 /// A memory round one that answers at once. A request that is served waits in a queue, behind those
 /// that were served before.
 ///
-/// The step that is the `4 * cores + 3`rd since the last answer, since the first request was
-/// withdrawn, or at all, while some request waits, answers one: with an even choice the first; with
-/// an odd one the second, where there is one and the first wasn't passed over yet.
+/// While some request waits, each `4 * cores + 3`rd step answers one: the first; or, where its
+/// choice is odd, the second, if there is one and the first wasn't passed over yet. Where the first
+/// is withdrawn, these steps begin again.
 #[derive(Drop)]
 pub struct QueuedMemory<M: MemoryCore> {
     memory: M,
