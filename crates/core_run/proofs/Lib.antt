@@ -1,4 +1,3 @@
-pub mod LaneLemmas
 pub mod PlainLemmas
 pub mod OwnLemmas
 pub mod SerialLemmas

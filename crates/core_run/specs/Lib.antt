@@ -1,4 +1,5 @@
 pub mod Cycle
 pub mod Lanes
 pub mod PlainView
+pub mod PlainUses
 pub mod Serial

@@ -3,6 +3,7 @@ ghost use Rattle.std.specs.Prelude.{◌≡◌, ◌<◌, ◌+◌, ◌^◌, []};
 ghost use Rattle.mem_port.specs.Loaded.{on_code, next_in, finish};
 ghost use Rattle.core_run.specs.Lanes.{IsStarted};
 ghost use Rattle.mem_port.specs.Pace.{Pace, IsFirstPace};
+ghost use Rattle.core_run.specs.PlainUses.{plain-uses};
 ghost use Rattle.core_run.specs.PlainView.{plain_view, IsPlainPace, under_way};
 
 use crate::TimedEngine;
@@ -88,6 +89,8 @@ impl CoreEngine for Plain<'_> {
     ghost view = { λ e. plain_view e.image.now e.core e.cores e.state e.executed e.phase e.clocks_left };
 
     ghost timed = { λ pace e. IsPlainPace pace (plain_view e.image.now e.core e.cores e.state e.executed e.phase e.clocks_left) e.phase };
+
+    ghost uses = { λ pace e h. plain-uses pace (plain_view e.image.now e.core e.cores e.state e.executed e.phase e.clocks_left) e.phase h };
 
     fn want_fetch(&self) -> Option<u32> {
         match self.phase {
