@@ -44,7 +44,7 @@ own-other cycle core other stamps more ne own =
     filter-append _ stamps (stamped cycle more)
     ∙ (ap (λ t. own_stamps stamps other ++ t) (stamped-other cycle core other more ne own) ∙ append-nil (own_stamps stamps other))
 
-entries-stamped : (cycle : ℕ) (more : List Entry) → map (λ (stamp : Stamp). stamp.entry) (stamped cycle more) ≡ more
+pub entries-stamped : (cycle : ℕ) (more : List Entry) → map (λ (stamp : Stamp). stamp.entry) (stamped cycle more) ≡ more
 entries-stamped cycle [] = refl
 entries-stamped cycle (entry ∷ more) = ap (λ t. entry ∷ t) (entries-stamped cycle more)
 
