@@ -1,7 +1,10 @@
+pub mod LeadLaws
+pub mod CycleLaws
 pub mod PlainLemmas
 pub mod OwnLemmas
 pub mod SerialLemmas
 pub mod StampLemmas
+pub mod PaceLemmas
 pub mod TurnLemmas
 pub mod RoundLemmas
 pub mod RunLemmas

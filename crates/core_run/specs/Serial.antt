@@ -1,5 +1,5 @@
 -- Cores that have their cycles in turn.
-use Rattle.std.specs.Prelude.{◌≡◌, ℕ, ◌+◌, ◌<◌, ◌≤◌, ◌⊎◌, ◌==◌, if◌then◌else◌, Bool, true, false, IsTrue, ◌&&◌, not, Option, Some, None, List, ◌++◌, length, slice_get, map}
+use Rattle.std.specs.Prelude.{◌≡◌, ℕ, ◌+◌, ◌<◌, ◌≤◌, ◌⊎◌, ◌==◌, if◌then◌else◌, Bool, true, false, ◌&&◌, not, Option, Some, None, List, ◌++◌, length, slice_get, map}
 use Rattle.std.specs.List.{AllByRecursion}
 use Rattle.mips_isa.specs.declared.Stop.{Stop}
 use Rattle.image_file.specs.Value.{ImageValue, start_memory}
@@ -23,11 +23,10 @@ use Rattle.mem_port.specs.Calls.{Call, Ask, Serve, Step, Take, Withdraw, Lead}
 use Rattle.mem_port.specs.Memory.{MemoryView, IsAtOnce, committed}
 use Rattle.mem_port.specs.Engine.{EngineView}
 use Rattle.mem_port.specs.Pace.{Pace}
-use Rattle.mem_port.specs.Side.{SideView, side_of}
+use Rattle.mem_port.specs.Side.{side_of}
 use Rattle.core_run.specs.declared.lane.Lane.{Lane}
 use Rattle.core_run.specs.declared.serial.Seat.{Seat}
-use Rattle.core_run.specs.Cycle.{wait_left}
-use Rattle.core_run.specs.Lanes.{RunsAlone, IsCoupled, IsFinished, IsStarted, IsClosed, bound_of}
+use Rattle.core_run.specs.Lanes.{RunsAlone, IsCoupled, IsFinished, IsStarted, IsClosed, IsNoTighter, bound_of}
 
 -- An end is the stop at which the core stands, within the budget, or comes after the whole budget.
 abbrev pub EndFits : End → ℕ → ℕ → Option Stop → Type 0
@@ -121,11 +120,6 @@ pub record AreInTurns (rounds turn : ℕ) (items : List Item) (stamps : List Sta
   pub rising : IsRising stamps
   pub earlier : AllByRecursion (IsEarlier rounds turn) stamps
 
--- At a pace each want may stay unmet for as long as a side tells, where it does.
-pub record IsNoTighter (s : SideView) (lane : Lane) (pace : Pace) : Type 0 where
-  pub fetch : IsTrue s.tells_distances → wait_left lane.open_fetch (s.patience (Fetch lane.core)) s.bound ≤ pace.fetch_left
-  pub access : IsTrue s.tells_distances → wait_left lane.open_access (s.patience (Access lane.core)) s.bound ≤ pace.access_left
-
 -- The engine of a core on a memory was served at this pace so far: it had a clock in each cycle of its core, and its accesses
 -- are those that its core has taken.
 pub record IsServedAt {E : Type 0} (view : E → EngineView) (times : Pace → E → Type 0) (m : MemoryView) (engine : E) (lane : Lane) (end : Option End) (cycles : ℕ) (pace : Pace) : Type 0 where
@@ -134,7 +128,7 @@ pub record IsServedAt {E : Type 0} (view : E → EngineView) (times : Pace → E
   pub accesses : map (λ (stamp : Stamp). stamp.entry) pace.service.accesses ≡ committed m lane.core
   pub bound : pace.bound ≡ bound_of (side_of m lane.core)
   pub live : (view engine).is_live ≡ (goes_on end && not pace.is_drained)
-  pub left : end ≡ None → IsNoTighter (side_of m lane.core) lane pace
+  pub tight : end ≡ None → IsNoTighter pace (side_of m lane.core) lane
   -- Where each answer comes as its request is served, nothing is open, and the budget didn't end while something was.
   pub at_once : IsAtOnce m → IsClosed lane × (pace.is_drained ≡ false)
 
