@@ -6,6 +6,7 @@ pub mod SerialLemmas
 pub mod StampLemmas
 pub mod PaceLemmas
 pub mod TurnLemmas
+pub mod ServedLemmas
 pub mod RoundLemmas
 pub mod RunLemmas
 pub mod RunLaws

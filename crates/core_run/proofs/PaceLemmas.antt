@@ -39,6 +39,10 @@ module _ (e : EngineView) (p : Pace) where
   last-bound false answer = refl
   last-bound true answer = refl
 
+  pub last-same : (is_open : Bool) (answer : Withdrawal) → is_open ≡ false → last_pace is_open answer e p ≡ p
+  last-same false answer closed = refl
+  last-same true answer closed = cc
+
   none-received : map (λ (stamp : Stamp). stamp.entry) p.service.accesses ≡ received p ++ executed_by e.core e.access None
   none-received = rw (executed-none e.core e.access) (sym (append-nil (received p)))
 
@@ -49,12 +53,12 @@ module _ (e : EngineView) (p : Pace) where
       map-append _ p.service.accesses (stamped (p.service.clocks + 1) (executed_by e.core e.access (Some word)))
       ∙ ap (λ t. received p ++ t) (entries-stamped (p.service.clocks + 1) (executed_by e.core e.access (Some word)))
 
-module _ {E : Type 0} {view : E → EngineView} {times : Pace → E → Type 0} {e f : E} {p : Pace} where
+module _ {E : Type 0} (view : E → EngineView) (times : Pace → E → Type 0) {e f : E} (p : Pace) where
   pub last-tells : (is_open : Bool) (answer : Withdrawal) → IsDrained view times is_open answer e f → times p e → times (last_pace is_open answer (view e) p) f
   last-tells false answer same tells = subst (λ (x : E). times p x) (sym same) tells
   last-tells true answer drained tells = drained.1 p (last_pace true answer (view e) p) tells refl
 
-  pub last-live : (is_open : Bool) (answer : Withdrawal) (goes : Bool) → IsDrained view times is_open answer e f → (view e).is_live ≡ (goes && not p.is_drained)
-      → (view f).is_live ≡ (goes && not (last_pace is_open answer (view e) p).is_drained)
-  last-live false answer goes same live = ap (λ (x : E). (view x).is_live) same ∙ live
-  last-live true answer goes drained live = drained.0.live ∙ sym (and_false goes)
+pub last-live : {E : Type 0} (view : E → EngineView) (times : Pace → E → Type 0) {e f : E} (p : Pace) (is_open : Bool) (answer : Withdrawal) (goes : Bool) → IsDrained view times is_open answer e f
+    → (view e).is_live ≡ (goes && not p.is_drained) → (view f).is_live ≡ (goes && not (last_pace is_open answer (view e) p).is_drained)
+last-live {E} view times p false answer goes same live = ap (λ (x : E). (view x).is_live) same ∙ live
+last-live view times p true answer goes drained live = drained.0.live ∙ sym (and_false goes)
