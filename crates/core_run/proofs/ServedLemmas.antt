@@ -20,7 +20,7 @@ use Rattle.core_run.specs.Serial.{IsOn, IsOver, IsServedAt, Receives, goes_on, e
 use Rattle.core_run.proofs.CycleLaws.{cycle-paces, cycle-no_tighter}
 use Rattle.core_run.proofs.PaceLemmas.{last_pace, last-clocks, last-bound, last-accesses, last-tells, last-live, last-same}
 use Rattle.core_run.proofs.StampLemmas.{entries-stamped}
-use Rattle.core_run.proofs.TurnLemmas.{closed-after, live-after, runs-on, end-fits, stopped-closed, stays-closed, dead-stops, asks-less, few-asks, executed-one, cycle-core, ending-core, quiet-closed, receives}
+use Rattle.core_run.proofs.TurnLemmas.{once-along, closed-after, live-after, runs-on, end-fits, stopped-closed, stays-closed, dead-stops, asks-less, few-asks, executed-one, cycle-core, ending-core, quiet-closed, receives}
 
 and_true : (b : Bool) → (b && true) ≡ b
 and_true true = refl
@@ -29,12 +29,6 @@ and_true false = refl
 not-drained : (is_drained : Bool) → (true && not is_drained) ≡ true → is_drained ≡ false
 not-drained false h = refl
 not-drained true h = cc
-
-once-before : {old new : MemoryView} (core : ℕ) → KeepsSide (side_of old core) (side_of new core) → IsAtOnce new → IsAtOnce old
-once-before core kept once = record { told = sym kept.tells_distances ∙ once.told; bound = sym kept.bound ∙ once.bound }
-
-once-behind : {old new : MemoryView} (core : ℕ) → KeepsSide (side_of old core) (side_of new core) → IsAtOnce old → IsAtOnce new
-once-behind core kept once = record { told = kept.tells_distances ∙ once.told; bound = kept.bound ∙ once.bound }
 
 -- The side of a core, where a memory is held.
 abbrev side_in : {S : Type 0} → (S → MemoryView) → S → ℕ → SideView
@@ -62,7 +56,7 @@ module _ {E S : Type 0} (view : E → EngineView) (times : Pace → E → Type 0
       live = last-live view times p before.open_access access (goes_on (Some end)) ending.drained served.live;
       tight = λ none. cc;
       at_once = λ once.
-          (let was = served.at_once (once-before before.core kept once) in
+          (let was = served.at_once (once-along (sym kept.tells_distances) (sym kept.bound) once) in
           (rw ending.lane (record { fetch = refl; access = refl }), ap (λ (q : Pace). q.is_drained) (last-same (view e) p before.open_access access was.0.access) ∙ was.1));
     }
 
@@ -108,7 +102,7 @@ module _ {E S : Type 0} (view : E → EngineView) (times : Pace → E → Type 0
             live = rw (drained_not, ends) (live-after result (cycles + 1) budget (view f) progressed ∙ sym (and_true _));
             tight = λ none. subst (λ (k : ℕ). IsNoTighter (pace_after came (view e) (side_of (memory t) before.core) after p) (side_of (memory t) k) after) (sym (cycle-core cycle)) loose;
             at_once = λ once.
-                (let was = once-before before.core kept once in
+                (let was = once-along (sym kept.tells_distances) (sym kept.bound) once in
                 (closed-after (side_of (memory s) before.core) (side_of (memory t) before.core) before after was.told was.bound (served.at_once was).0 cycle.waits, drained_not));
           }
 
@@ -137,7 +131,7 @@ module _ {E S : Type 0} (view : E → EngineView) (times : Pace → E → Type 0
             (
               rw same now,
               λ once.
-                  (let closed = (now.at_once (once-behind before.core kept once)).0 in
+                  (let closed = (now.at_once (once-along kept.tells_distances kept.bound once)).0 in
                   rw same (received-turn (memory t) q was is left once (subst Q (cycle-core cycle) (quiet-closed (view f) (side_of (memory t) before.core) after coupled closed)) (subst T (cycle-core cycle) now.accesses) refl)),
             ),
           )
@@ -158,7 +152,7 @@ module _ {E S : Type 0} (view : E → EngineView) (times : Pace → E → Type 0
             (
               rw same over,
               λ once.
-                  (let closed = (now.at_once (once-behind before.core kept once)).0.access in
+                  (let closed = (now.at_once (once-along kept.tells_distances kept.bound once)).0.access in
                   rw same (received-turn (memory u) q was is left once (subst Q (cycle-core cycle) finished.access) (subst T (ending-core ending ∙ (cycle-core cycle)) over.accesses)
                   (ap (λ (x : Pace). x.service.accesses) (last-same (view f) mid after.open_access access closed)))),
             ),

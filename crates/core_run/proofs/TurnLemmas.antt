@@ -49,6 +49,9 @@ none-waits m lawful once q h =
     let bound = once.bound in
     omega (arith, near.0, near.1, bound)
 
+pub once-along : {old new : MemoryView} → new.tells_distances ≡ old.tells_distances → new.bound ≡ old.bound → IsAtOnce old → IsAtOnce new
+once-along told bound once = record { told = told ∙ once.told; bound = bound ∙ once.bound }
+
 -- So a port that another core's turn leaves is as it was.
 port-same : (m : MemoryView) → IsLawful m → IsAtOnce m → (q : Port) (state : PortState) → Evolves (m.port q) state → state ≡ m.port q
 port-same m lawful once q state (inl same) = same
