@@ -1,5 +1,6 @@
 pub mod LeadLaws
 pub mod CycleLaws
+pub mod LaneLemmas
 pub mod PlainLemmas
 pub mod OwnLemmas
 pub mod SerialLemmas
