@@ -17,10 +17,10 @@ use Rattle.core_run.specs.declared.lane.Came.{Came}
 use Rattle.core_run.specs.Cycle.{IsCycle, IsEnding, late_reply}
 use Rattle.core_run.specs.Lanes.{RunsAlone, IsCoupled, IsFinished, IsClosed, IsQuiet, Progressed, IsNoTighter, pace_after}
 use Rattle.core_run.specs.Serial.{IsOn, IsOver, IsServedAt, Receives, goes_on, end_after}
-use Rattle.core_run.proofs.CycleLaws.{cycle-paces, cycle-no_tighter}
-use Rattle.core_run.proofs.PaceLemmas.{last_pace, last-clocks, last-bound, last-accesses, last-tells, last-live, last-same}
+use Rattle.core_run.proofs.CycleLaws.{cycle-paces, cycle-no_tighter, cycle-core, ending-core, closed-after}
+use Rattle.core_run.proofs.EndLaws.{live-after, end-fits, stopped-closed, stays-closed, dead-stops, last_pace, last-clocks, last-bound, last-accesses, last-tells, last-live, last-same}
 use Rattle.core_run.proofs.StampLemmas.{entries-stamped}
-use Rattle.core_run.proofs.TurnLemmas.{once-along, closed-after, live-after, runs-on, end-fits, stopped-closed, stays-closed, dead-stops, asks-less, few-asks, executed-one, cycle-core, ending-core, quiet-closed, receives}
+use Rattle.core_run.proofs.TurnLemmas.{once-along, runs-on, asks-less, few-asks, executed-one, quiet-closed, receives}
 
 and_true : (b : Bool) → (b && true) ≡ b
 and_true true = refl

@@ -36,10 +36,9 @@ use Rattle.core_run.specs.declared.lane.Came.{Came}
 use Rattle.core_run.specs.Cycle.{IsCycle, IsEnding, IsDrained, UsesAsks, WaitsLess, cycle_calls, opens, sends, takes, steps, withdraws, wait_left}
 use Rattle.core_run.specs.Lanes.{RunsAlone, PortHolds, IsCoupled, StopsWhereDead, IsFinished, IsClosed, IsQuiet, Progressed, IsNoTighter, bound_of, pace_after}
 use Rattle.core_run.specs.Serial.{EndFits, IsOn, IsOver, SeatHolds, AddsOwn, HasChoice, Leads, IsServedAt, Receives, goes_on, end_after}
-use Rattle.core_run.proofs.CycleLaws.{cycle-paces, cycle-no_tighter}
 use Rattle.core_run.proofs.LeadLaws.{lead-append, lead-along}
 use Rattle.core_run.proofs.OwnLemmas.{entries-own, own-all}
-use Rattle.core_run.proofs.PaceLemmas.{last_pace, last-clocks, last-bound, last-accesses, last-tells, last-live, executed-none}
+use Rattle.core_run.proofs.DoneLaws.{taken-all}
 use Rattle.core_run.proofs.StampLemmas.{all-append, entries-stamped}
 
 -- Every answer comes as its request is served, so that nothing waits.
@@ -67,14 +66,6 @@ same-own (Asked r) core own more was is taken = taken
 same-own (Waiting r) core own more was is taken = taken
 same-own (Answered r word) core own more was is taken = is ∙ (ap (λ t. t ++ entry_of core r word ∷ []) taken ∙ sym was)
 same-own Closed core own more was is taken = taken
-
--- At rest a core has taken all its entries.
-pub taken-all : (port : PortState) (own : List Entry) → IsQuiet (mark port) → taken_of port own ≡ own
-taken-all Free own h = refl
-taken-all (Asked r) own h = absurd h
-taken-all (Waiting r) own h = absurd h
-taken-all (Answered r word) own h = absurd h
-taken-all Closed own h = refl
 
 -- What a core took in its turn is what was added.
 module _ (core : ℕ) (old new : MemoryView) (was : IsLawful old) (is : IsLawful new) (once : IsAtOnce old) (left : LeavesOthers core old new) where
@@ -110,22 +101,6 @@ module _ (core : ℕ) (old new : MemoryView) (was : IsLawful old) (is : IsLawful
           append_cancel_left (own_items old.history core) (own_items added core) more
           (sym (own-added core) ∙ (sym after ∙ (taken ∙ ap (λ t. t ++ more) before)))
 
--- Where nothing was open, a want that a cycle leaves open would have no step left.
-shut : (was_open is_open : Bool) (left patience bound : ℕ) → bound ≡ 0 → was_open ≡ false
-    → (is_open ≡ true → left + 1 ≤ wait_left was_open patience bound) → is_open ≡ false
-shut was_open false left patience bound none closed waits = refl
-shut was_open true left patience bound none closed waits =
-    let W : Bool → Type 0 = λ b. left + 1 ≤ wait_left b patience bound in
-    let over = subst W closed (waits refl) in
-    absurd (omega (arith, over, none))
-
-pub closed-after : (old new : SideView) (before after : Lane) → IsTrue old.tells_distances → old.bound ≡ 0 → IsClosed before → WaitsLess old new before after
-    → IsClosed after
-closed-after old new before after told none closed waits = record {
-  fetch = shut before.open_fetch after.open_fetch _ _ old.bound none closed.fetch (waits.fetch told);
-  access = shut before.open_access after.open_access _ _ old.bound none closed.access (waits.access told);
-}
-
 -- The calls of a turn.
 
 steps-choice : (choice : ℕ) (step : Option Moved) → AllByRecursion (HasChoice choice) (steps choice step)
@@ -155,14 +130,6 @@ cycle-choice choice e lane came =
     (all-append (HasChoice choice) fetches (replies ++ (words ++ moves)) (sends-choice choice (Fetch lane.core) (option_map fetch_of (opens lane.open_fetch e.fetch)))
     (all-append (HasChoice choice) replies (words ++ moves) (takes-choice choice (Access lane.core) e.access came.reply)
     (all-append (HasChoice choice) words moves (takes-choice choice (Fetch lane.core) e.fetch came.fetched) (steps-choice choice came.step))))
-
--- The lane behind a cycle, and behind an end, is of the same core.
-module _ {E S : Type 0} {view : E → EngineView} {times : Pace → E → Type 0} {side : S → ℕ → SideView} {makes : Call → S → S → Type 0} {pays : ℕ → ℕ → S → S → Type 0} {e f : E} {s t : S} {before after : Lane} where
-  pub cycle-core : {choice : ℕ} {came : Came} {result : Progress} → IsCycle view times side makes pays choice came result e f s t before after → after.core ≡ before.core
-  cycle-core h = ap (λ (l : Lane). l.core) h.lane
-
-  pub ending-core : {access fetch : Withdrawal} → IsEnding view times side makes pays access fetch e f s t before after → after.core ≡ before.core
-  ending-core h = ap (λ (l : Lane). l.core) h.lane
 
 module _ {E S M : Type 0} {view : E → EngineView} {times : Pace → E → Type 0} {side : S → ℕ → SideView} {makes : Call → S → S → Type 0} {pays : ℕ → ℕ → S → S → Type 0}
     (does : Call → M → M → Type 0) (held : S → M) (each : (call : Call) (s t : S) → makes call s t → does call (held s) (held t)) where
@@ -195,17 +162,6 @@ leads-twice makes old mid new h k = (h.0 ++ k.0, (lead-append makes h.0 k.0 old 
 pub leads-none : {M : Type 0} (makes : Call → M → M → Type 0) (m : M) → Leads makes m m
 leads-none makes m = ([], (refl, tt))
 
--- How a cycle ends its core.
-
-spent-goes_on : (is_spent : Bool) → goes_on (if is_spent then Some Spent else None) ≡ true
-spent-goes_on true = refl
-spent-goes_on false = refl
-
--- Whether a core goes on behind a cycle tells whether its engine is live.
-pub live-after : (result : Progress) (cycles budget : ℕ) (e : EngineView) → Progressed result e → e.is_live ≡ goes_on (end_after result cycles budget)
-live-after progress.Running cycles budget e live = live ∙ sym (spent-goes_on (cycles == budget))
-live-after (progress.Stopped why) cycles budget e live = live.0
-
 -- What holds of a state holds of the one that is it.
 pub as_now : {M : Type 0} (P : M → Type 0) (now : M) {last : M} → last ≡ now → P now → P last
 as_now P now same h = subst P (sym same) h
@@ -219,36 +175,6 @@ pub is-on : {rounds budget : ℕ} {m : MemoryView} {e : EngineView} {lane : Lane
     → SeatHolds end rounds budget m e lane cycles → IsOn rounds budget m e lane cycles
 is-on None none h = h
 is-on (Some end) none h = cc
-
--- A core that has stopped stands at its stop.
-pub dead-stops : (result : Progress) (e : EngineView) → Progressed result e → StopsWhereDead e
-dead-stops progress.Running e live dead = cc
-dead-stops (progress.Stopped why) e h dead = (why, h.1)
-
-fits-spent : (is : Bool) (cycles budget : ℕ) (end : End) (stops : Option Stop) → (is ≡ true → cycles ≡ budget) → (if is then Some Spent else None) ≡ Some end → EndFits end budget cycles stops
-fits-spent true cycles budget end stops at h = subst (λ (e : End). EndFits e budget cycles stops) (same_Some Spent end h) (at refl)
-fits-spent false cycles budget end stops at h = cc
-
--- The end that a cycle makes is one of its core.
-pub end-fits : (result : Progress) (cycles budget : ℕ) (end : End) (x y : EngineView) → Progressed result x → end_after result cycles budget ≡ Some end → cycles ≤ budget
-    → (x.is_live ≡ false → y ≡ x) → EndFits end budget cycles (stop y.image y.state)
-end-fits progress.Running cycles budget end x y live is within same = fits-spent (cycles == budget) cycles budget end _ (eqb-true cycles budget) is
-end-fits (progress.Stopped why) cycles budget end x y h is within same =
-    subst (λ (e : End). EndFits e budget cycles (stop y.image y.state)) (same_Some (Stopped why) end is) (rw (same h.0) h.1, within)
-
-closed-case : (is_open : Bool) (port : Mark) (want : Option Request) → ((r : Request) → want ≡ Some r → ⊥) → PortHolds is_open port want → is_open ≡ false
-closed-case false port want none h = refl
-closed-case true port None none h = absurd h
-closed-case true port (Some r) none h = absurd (none r refl)
-
--- Where a core has stopped, no access of its is open.
-pub stopped-closed : (e : EngineView) (s : SideView) (lane : Lane) → IsCoupled e s lane → StopsWhereDead e → e.is_live ≡ false → lane.open_access ≡ false
-stopped-closed e s lane coupled dead stopped =
-    closed-case lane.open_access _ e.access (λ r want. (let none = request-no_stop e.image e.executed e.state r (coupled.sound.access_next r want) in let some = (dead stopped).1 in cc)) coupled.access
-
-pub stays-closed : {E : Type 0} (view : E → EngineView) (times : Pace → E → Type 0) (is_open : Bool) (answer : Withdrawal) (e f : E) → is_open ≡ false → IsDrained view times is_open answer e f → f ≡ e
-stays-closed view times false answer e f closed same = same
-stays-closed view times true answer e f closed drained = cc
 
 spent-some : (is : Bool) → is ≡ true → (if is then Some Spent else None) ≡ None → ⊥
 spent-some true same h = cc

@@ -6,7 +6,9 @@ use Rattle.mem_port.specs.Side.{LeavesOthers, ServesCore, side_of}
 use Rattle.mem_port.proofs.SideLaws.{goes_on-view}
 use Rattle.core_run.specs.Lanes.{RunsAlone, IsCoupled}
 use Rattle.core_run.specs.Serial.{IsServedAt, Leads}
-use Rattle.core_run.proofs.TurnLemmas.{as_now, none-is, is-on, dead-stops, cycle-core, ending-core, cycle-leads, ending-leads, leads-twice}
+use Rattle.core_run.proofs.CycleLaws.{cycle-core, ending-core}
+use Rattle.core_run.proofs.EndLaws.{dead-stops}
+use Rattle.core_run.proofs.TurnLemmas.{as_now, none-is, is-on, cycle-leads, ending-leads, leads-twice}
 use Rattle.core_run.proofs.ServedLemmas.{next-on, ended-over, turn-on, turn-ended}
 use Rattle.core_run.proofs.serial.play.Goals as goal
 
