@@ -3,14 +3,15 @@ use Rattle.std.proofs.Common.{◌≡◌, ℕ, ◌+◌, ◌≤◌, Bool, true, fa
 use Rattle.std.specs.Prelude.{if◌then◌else◌}
 use Rattle.mem_port.specs.declared.engine.Progress.{Progress}
 use Rattle.mem_port.specs.declared.port.Port.TheVariants.{Fetch, Access}
+use Rattle.mem_port.specs.declared.port.Withdrawal.{Withdrawal}
 use Rattle.mem_port.specs.Calls.{Call}
 use Rattle.mem_port.specs.Engine.{EngineView}
 use Rattle.mem_port.specs.Pace.{Pace, Paces, IsLeft, is_unmet}
 use Rattle.mem_port.specs.Side.{SideView, KeepsSide}
 use Rattle.core_run.specs.declared.lane.Lane.{Lane}
 use Rattle.core_run.specs.declared.lane.Came.{Came}
-use Rattle.core_run.specs.Cycle.{IsCycle, WaitsLess, lane_after, wait_left}
-use Rattle.core_run.specs.Lanes.{IsNoTighter, bound_of, pace_after}
+use Rattle.core_run.specs.Cycle.{IsCycle, IsEnding, WaitsLess, lane_after, wait_left}
+use Rattle.core_run.specs.Lanes.{IsClosed, IsNoTighter, bound_of, pace_after}
 
 -- A want that isn't met has a clock less, another one the bound.
 left : {W : Type 0} (told : Bool) (want : Option W) (given : Option ℕ) (patience bound old : ℕ) → (IsTrue told → is_unmet want given ≡ true → patience + 1 ≤ old)
@@ -52,3 +53,27 @@ module _ {E S : Type 0} (view : E → EngineView) (times : Pace → E → Type 0
     fetch = λ told. omega arith;
     access = λ told. omega arith;
   }
+
+-- The lane behind a cycle, and behind an end, is of the same core.
+module _ {E S : Type 0} {view : E → EngineView} {times : Pace → E → Type 0} {side : S → ℕ → SideView} {makes : Call → S → S → Type 0} {pays : ℕ → ℕ → S → S → Type 0} {e f : E} {s t : S} {before after : Lane} where
+  pub cycle-core : {choice : ℕ} {came : Came} {result : Progress} → IsCycle view times side makes pays choice came result e f s t before after → after.core ≡ before.core
+  cycle-core h = ap (λ (l : Lane). l.core) h.lane
+
+  pub ending-core : {access fetch : Withdrawal} → IsEnding view times side makes pays access fetch e f s t before after → after.core ≡ before.core
+  ending-core h = ap (λ (l : Lane). l.core) h.lane
+
+-- Where nothing was open, a want that a cycle leaves open would have no step left.
+shut : (was_open is_open : Bool) (left patience bound : ℕ) → bound ≡ 0 → was_open ≡ false
+    → (is_open ≡ true → left + 1 ≤ wait_left was_open patience bound) → is_open ≡ false
+shut was_open false left patience bound none closed waits = refl
+shut was_open true left patience bound none closed waits =
+    let W : Bool → Type 0 = λ b. left + 1 ≤ wait_left b patience bound in
+    let over = subst W closed (waits refl) in
+    absurd (omega (arith, over, none))
+
+pub closed-after : (old new : SideView) (before after : Lane) → IsTrue old.tells_distances → old.bound ≡ 0 → IsClosed before → WaitsLess old new before after
+    → IsClosed after
+closed-after old new before after told none closed waits = record {
+  fetch = shut before.open_fetch after.open_fetch _ _ old.bound none closed.fetch (waits.fetch told);
+  access = shut before.open_access after.open_access _ _ old.bound none closed.access (waits.access told);
+}
