@@ -3,7 +3,7 @@ use Rattle.std.proofs.Common.{◌≡◌, ◌≢◌, ℕ, ◌+◌, ◌-◌, ◌/�
 use Rattle.std.specs.Prelude.{◌||◌, is_some, option_map, slice_index}
 use Rattle.std.proofs.lemmas.Bool.{cases_Bool}
 use Rattle.std.proofs.lemmas.Option.{same_Some}
-use Rattle.image_file.specs.Value.{ImageValue, memory_bytes}
+use Rattle.image_file.specs.Value.{ImageValue, memory_bytes, start_state}
 use Rattle.access_log.specs.declared.request.Request.{Request}
 use Rattle.access_log.specs.declared.Entry.{Entry}
 use Rattle.access_log.specs.Memory.{made}
@@ -31,7 +31,7 @@ use Rattle.mem_port.proofs.SideLaws.{mark-evolves, evolves-twice}
 use Rattle.core_run.specs.declared.lane.Lane.{Lane}
 use Rattle.core_run.specs.declared.lane.Came.{Came}
 use Rattle.core_run.specs.Cycle.{opens, sends, takes, steps, cycle_calls, lane_after, moved_in, wait_left, late_reply, found_by, UsesAsks, WaitsLess, WasOn, IsDrained}
-use Rattle.core_run.specs.Lanes.{RunsAlone, IsCoupled, SideSends, PortHolds, StopsWhereDead, IsQuiet}
+use Rattle.core_run.specs.Lanes.{HasCome, IsCoupled, SideSends, PortHolds, StopsWhereDead, IsQuiet}
 use Rattle.core_run.specs.Meets.{Makes, Opens, TakesUp, Fits, StepsOn, Meets, Closes, entries_by}
 use Rattle.core_run.proofs.LeadLaws.{lead-append}
 
@@ -310,48 +310,48 @@ access-proper e image core r same sound want =
 -- The steps of an engine are those of its core by itself.
 
 -- Where nothing is executed.
-runs-rests : (old new : EngineView) (es : List Entry) → KeepsEngine old new → Rests old new → RunsAlone old es → RunsAlone new es
+runs-rests : (old new : EngineView) (es : List Entry) → KeepsEngine old new → Rests old new → HasCome old es → HasCome new es
 runs-rests old new es k r h = record { comes = rw (k.image, k.core, k.cores, r.executed, r.state) h.comes }
 
 -- One instruction without an access.
-runs-goes : (old new : EngineView) (es : List Entry) → KeepsEngine old new → GoesOn old new → RunsAlone old es → RunsAlone new es
+runs-goes : (old new : EngineView) (es : List Entry) → KeepsEngine old new → GoesOn old new → HasCome old es → HasCome new es
 unfolding next_in
 runs-goes old new es k g h =
     record {
       comes = rw (k.image, k.core, k.cores, g.executed, g.state)
-          (comes-goes old.image.code (memory_bytes old.image) old.cores old.core es old.executed old.state _ h.comes (next-goes old.image old.executed old.state g.no_stop g.no_access));
+          (comes-goes old.image.code (memory_bytes old.image) (start_state old.image old.core old.cores) es old.executed old.state _ h.comes (next-goes old.image old.executed old.state g.no_stop g.no_access));
     }
 
 -- One access.
-does : (e : EngineView) (es : List Entry) (r : Request) (word : ℕ) → request e.image e.executed e.state ≡ Some r → RunsAlone e es →
-    ComesTo e.image.code (memory_bytes e.image) e.cores e.core (es ++ entry_of e.core r word ∷ []) (e.executed + 1) (finish e.image e.state word)
+does : (e : EngineView) (es : List Entry) (r : Request) (word : ℕ) → request e.image e.executed e.state ≡ Some r → HasCome e es →
+    ComesTo e.image.code (memory_bytes e.image) (start_state e.image e.core e.cores) (es ++ entry_of e.core r word ∷ []) (e.executed + 1) (finish e.image e.state word)
 unfolding next_in finish entry_of
 does e es r word next h =
     let asks = request-asks e.image e.executed e.state r next in
-    along (λ n. ComesTo e.image.code (memory_bytes e.image) e.cores e.core (es ++ made e.core n (access_of r) word ∷ []) (e.executed + 1) (finish e.image e.state word)) asks.1
-    (comes-does e.image.code (memory_bytes e.image) e.cores e.core es e.executed e.state (access_of r) word h.comes asks.0)
+    along (λ n. ComesTo e.image.code (memory_bytes e.image) (start_state e.image e.core e.cores) (es ++ made e.core n (access_of r) word ∷ []) (e.executed + 1) (finish e.image e.state word)) asks.1
+    (comes-does e.image.code (memory_bytes e.image) (start_state e.image e.core e.cores) e.core es e.executed e.state (access_of r) word h.comes asks.0)
 
-runs-finishes : (want : Option Request) (word : ℕ) (old new : EngineView) (es : List Entry) → old.access ≡ want → IsSound old → KeepsEngine old new → Finishes word old new → ReplyFits want (Some word) → RunsAlone old es
-    → RunsAlone new (es ++ executed_by old.core want (Some word))
+runs-finishes : (want : Option Request) (word : ℕ) (old new : EngineView) (es : List Entry) → old.access ≡ want → IsSound old → KeepsEngine old new → Finishes word old new → ReplyFits want (Some word) → HasCome old es
+    → HasCome new (es ++ executed_by old.core want (Some word))
 runs-finishes None word old new es is sound k f fits h = absurd fits
 runs-finishes (Some r) word old new es is sound k f fits h =
     record { comes = rw (k.image, k.core, k.cores, f.executed, f.state) (does old es r word (sound.access_next r is) h) }
 
 -- Where nothing is executed by an answer.
-runs-none : (old new : EngineView) (es : List Entry) → RunsAlone new es → RunsAlone new (es ++ executed_by old.core old.access None)
-runs-none old new es h = along (λ es. RunsAlone new es) (ap (λ more. es ++ more) (executed-none old.core old.access) ∙ append-nil es) h
+runs-none : (old new : EngineView) (es : List Entry) → HasCome new es → HasCome new (es ++ executed_by old.core old.access None)
+runs-none old new es h = along (λ es. HasCome new es) (ap (λ more. es ++ more) (executed-none old.core old.access) ∙ append-nil es) h
 
-runs-acts : (reply : Option ℕ) (result : Progress) (old new : EngineView) (es : List Entry) → IsSound old → KeepsEngine old new → Acts reply result old new → ReplyFits old.access reply → RunsAlone old es
-    → RunsAlone new (es ++ executed_by old.core old.access reply)
+runs-acts : (reply : Option ℕ) (result : Progress) (old new : EngineView) (es : List Entry) → IsSound old → KeepsEngine old new → Acts reply result old new → ReplyFits old.access reply → HasCome old es
+    → HasCome new (es ++ executed_by old.core old.access reply)
 runs-acts (Some word) progress.Running old new es sound k a fits h = runs-finishes old.access word old new es refl sound k a.0 fits h
 runs-acts (Some word) (progress.Stopped why) old new es sound k a fits h = absurd a
 runs-acts None progress.Running old new es sound k a fits h =
-    runs-none old new es (elim a.0 as (λ _. RunsAlone new es) [ inl r ↦ runs-rests old new es k r h | inr g ↦ runs-goes old new es k g h ])
+    runs-none old new es (elim a.0 as (λ _. HasCome new es) [ inl r ↦ runs-rests old new es k r h | inr g ↦ runs-goes old new es k g h ])
 runs-acts None (progress.Stopped why) old new es sound k a fits h = runs-none old new es (runs-rests old new es k a.1.0 h)
 
 -- An engine that was clocked with what came runs on as its side is.
-pub runs-clocked : (came : Came) (result : Progress) (e f : EngineView) (lane : Lane) (old new : SideView) → IsSound e → Clocks came.fetched came.reply result e f → Meets e lane came old new → RunsAlone e old.taken → RunsAlone f new.taken
-runs-clocked came result e f lane old new sound k m h = along (λ es. RunsAlone f es) m.taken (runs-acts came.reply result e f old.taken sound k.kept k.acts m.reply_fits h)
+pub runs-clocked : (came : Came) (result : Progress) (e f : EngineView) (lane : Lane) (old new : SideView) → IsSound e → Clocks came.fetched came.reply result e f → Meets e lane came old new → HasCome e old.taken → HasCome f new.taken
+runs-clocked came result e f lane old new sound k m h = along (λ es. HasCome f es) m.taken (runs-acts came.reply result e f old.taken sound k.kept k.acts m.reply_fits h)
 
 -- The end of a core.
 
@@ -391,7 +391,7 @@ module _ (e : EngineView) (lane : Lane) (access fetch : Withdrawal) (s0 s1 s2 : 
   closed-asks (Fetch core) same = along (λ core. s2.asks_left (Fetch core) ≡ s0.asks_left (Fetch core)) same (b.asks ∙ a.other.asks (Fetch lane.core) (λ e. cc) refl)
   closed-asks (Access core) same = along (λ core. s2.asks_left (Access core) ≡ s0.asks_left (Access core)) same (b.other.asks (Access lane.core) (λ e. cc) refl ∙ a.asks)
 
-runs-ends : (reply : Option ℕ) (e f : EngineView) (es : List Entry) → IsSound e → Drains reply e f → ReplyFits e.access reply → RunsAlone e es → RunsAlone f (es ++ executed_by e.core e.access reply)
+runs-ends : (reply : Option ℕ) (e f : EngineView) (es : List Entry) → IsSound e → Drains reply e f → ReplyFits e.access reply → HasCome e es → HasCome f (es ++ executed_by e.core e.access reply)
 runs-ends None e f es sound d fits h = runs-none e f es (runs-rests e f es d.kept d.ends h)
 runs-ends (Some word) e f es sound d fits h = runs-finishes e.access word e f es refl sound d.kept d.ends fits h
 
@@ -402,6 +402,6 @@ open-fits port (Some r) (Some word) h = tt
 
 -- An engine that was drained with what became of its open access has run as its side tells.
 pub runs-drained : {E : Type 0} (view : E → EngineView) (times : Pace → E → Type 0) (is_open : Bool) (answer : Withdrawal) (e f : E) (port : Mark) (es : List Entry) → IsSound (view e)
-    → IsDrained view times is_open answer e f → PortHolds is_open port (view e).access → RunsAlone (view e) es → RunsAlone (view f) (es ++ executed_by (view e).core (view e).access (late_reply is_open answer))
+    → IsDrained view times is_open answer e f → PortHolds is_open port (view e).access → HasCome (view e) es → HasCome (view f) (es ++ executed_by (view e).core (view e).access (late_reply is_open answer))
 runs-drained view times true answer e f port es sound d on h = runs-ends (found_by answer) (view e) (view f) es sound d.0 (open-fits port (view e).access (found_by answer) on) h
-runs-drained view times false answer e f port es sound d on h = runs-none (view e) (view f) es (along (λ f. RunsAlone (view f) es) d h)
+runs-drained view times false answer e f port es sound d on h = runs-none (view e) (view f) es (along (λ f. HasCome (view f) es) d h)

@@ -15,7 +15,7 @@ use Rattle.mem_port.specs.Pace.{Pace}
 use Rattle.mem_port.specs.Side.{side_of}
 use Rattle.core_run.specs.declared.lane.Lane.{Lane}
 use Rattle.core_run.specs.declared.serial.Seat.{Seat}
-use Rattle.core_run.specs.Lanes.{RunsAlone, IsFinished, bound_of}
+use Rattle.core_run.specs.Lanes.{HasCome, IsFinished, bound_of}
 use Rattle.core_run.specs.Serial.{IsOver, SeatHolds, SeatAt, IsServedAt, AreServed, IsServedRun, IsEngineOf, IsEndOf, goes_on}
 use Rattle.core_run.proofs.DoneLaws.{IsDone, finished-done, finished-own}
 use Rattle.core_run.proofs.RoundLemmas.{AreSeated}
@@ -56,7 +56,7 @@ seat-done budget m core e rows lane end cycles ended at told =
     let over = seat-over at in
     let same : over.0 ≡ ended.end = same_Some over.0 ended.end (sym over.1.0 ∙ told.ends) in
     let finished = subst (λ (k : ℕ). IsFinished e (side_of m k) k) at.lane_is over.1.1.finished in
-    let runs = subst (λ (k : ℕ). RunsAlone e (committed m k)) at.lane_is over.1.1.runs in
+    let runs = subst (λ (k : ℕ). HasCome e (committed m k)) at.lane_is over.1.1.runs in
     finished-done budget m core e ended finished runs told.retired told.state (rw (same, sym told.took) at over.1.1.fits)
 
 -- What the ends of seats are.

@@ -1,7 +1,7 @@
 -- The seats of cores: what the turn of one core leaves of another's, and what they are at the start.
 use Rattle.std.proofs.Common.{◌≡◌, ◌≢◌, ℕ, ◌+◌, ◌<◌, ◌≤◌, inl, inr, Bool, true, false, IsTrue, Some, None, [], refl, ap, sym, ◌∙◌, arith}
 use Rattle.std.specs.Prelude.{Option, if◌then◌else◌}
-use Rattle.image_file.specs.Value.{ImageValue, memory_bytes}
+use Rattle.image_file.specs.Value.{ImageValue, memory_bytes, start_state}
 use Rattle.access_log.proofs.AloneLaws.{comes-start}
 use Rattle.timetable.specs.declared.End.{End}
 use Rattle.mem_port.specs.declared.port.Port.{Port}
@@ -16,7 +16,7 @@ use Rattle.mem_port.specs.Side.{SideView, Evolves, Unasked, mark, LeavesOthers, 
 use Rattle.mem_port.proofs.SideLaws.{mark-evolves}
 use Rattle.core_run.specs.declared.lane.Lane.{Lane}
 use Rattle.core_run.specs.Cycle.{wait_left}
-use Rattle.core_run.specs.Lanes.{RunsAlone, IsCoupled, IsFinished, IsStarted, IsClosed, IsNoTighter, bound_of}
+use Rattle.core_run.specs.Lanes.{HasCome, IsCoupled, IsFinished, IsStarted, IsClosed, IsNoTighter, bound_of}
 use Rattle.core_run.specs.Serial.{IsOn, SeatHolds, SeatAt, IsStartSeat, IsServedAt}
 use Rattle.core_run.proofs.TurnLemmas.{once-along}
 
@@ -105,9 +105,9 @@ module _ (turn : ℕ) (old new : MemoryView) (left : LeavesOthers turn old new) 
   }
 
 -- An engine at its start has executed nothing.
-runs-start : (image : ImageValue) (core cores : ℕ) (e : EngineView) → IsStarted image core cores e → RunsAlone e []
+runs-start : (image : ImageValue) (core cores : ℕ) (e : EngineView) → IsStarted image core cores e → HasCome e []
 runs-start image core cores e h =
-    record { comes = rw (h.executed, h.state, h.core_is, h.cores_are) (comes-start e.image.code (memory_bytes e.image) cores core) }
+    record { comes = rw (h.executed, h.state, h.core_is, h.cores_are) (comes-start e.image.code (memory_bytes e.image) (start_state e.image core cores)) }
 
 -- It belongs to every side on which nothing is asked yet.
 pub start-coupled : (image : ImageValue) (core cores : ℕ) (e : EngineView) (s : SideView) (lane : Lane) → IsStarted image core cores e

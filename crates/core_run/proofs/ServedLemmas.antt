@@ -15,7 +15,7 @@ use Rattle.mem_port.specs.Side.{SideView, KeepsSide, LeavesOthers, side_of, mark
 use Rattle.core_run.specs.declared.lane.Lane.{Lane}
 use Rattle.core_run.specs.declared.lane.Came.{Came}
 use Rattle.core_run.specs.Cycle.{IsCycle, IsEnding, late_reply}
-use Rattle.core_run.specs.Lanes.{RunsAlone, IsCoupled, IsFinished, IsClosed, IsQuiet, Progressed, IsNoTighter, pace_after}
+use Rattle.core_run.specs.Lanes.{HasCome, IsCoupled, IsFinished, IsClosed, IsQuiet, Progressed, IsNoTighter, pace_after}
 use Rattle.core_run.specs.Serial.{IsOn, IsOver, IsServedAt, Receives, goes_on, end_after}
 use Rattle.core_run.proofs.CycleLaws.{cycle-paces, cycle-no_tighter, cycle-core, ending-core, closed-after}
 use Rattle.core_run.proofs.EndLaws.{live-after, end-fits, stopped-closed, stays-closed, dead-stops, last_pace, last-clocks, last-bound, last-accesses, last-tells, last-live, last-same}
@@ -38,7 +38,7 @@ module _ {E S : Type 0} (view : E → EngineView) (times : Pace → E → Type 0
   module _ {access fetch : Withdrawal} {e f : E} {s t : S} {before after : Lane} (ending : IsEnding view times (side_in memory) makes pays access fetch e f s t before after) where
     -- A core that has ended.
     pub ended-over : {budget cycles : ℕ} {last : MemoryView} (result : Progress) (end : End) → last ≡ memory t → Progressed result (view e) → end_after result cycles budget ≡ Some end → cycles ≤ budget
-        → IsCoupled (view e) (side_of (memory s) before.core) before → IsFinished (view f) (side_of (memory t) before.core) before.core → RunsAlone (view f) (committed (memory t) before.core)
+        → IsCoupled (view e) (side_of (memory s) before.core) before → IsFinished (view f) (side_of (memory t) before.core) before.core → HasCome (view f) (committed (memory t) before.core)
         → IsOver budget last (view f) after end cycles
     ended-over {budget} {cycles} result end same progressed is within coupled finished runs =
         let still = λ (dead : (view e).is_live ≡ false).
@@ -65,7 +65,7 @@ module _ {E S : Type 0} (view : E → EngineView) (times : Pace → E → Type 0
       (progressed : Progressed result (view f)) (on : IsOn rounds budget (memory s) (view e) before cycles) where
     -- A core that runs on behind a cycle.
     pub next-on : {last : MemoryView} → last ≡ memory t → end_after result (cycles + 1) budget ≡ None → IsCoupled (view f) (side_of (memory t) before.core) after
-        → (RunsAlone (view e) (committed (memory s) before.core) → RunsAlone (view f) (committed (memory t) before.core)) → IsOn (rounds + 1) budget last (view f) after (cycles + 1)
+        → (HasCome (view e) (committed (memory s) before.core) → HasCome (view f) (committed (memory t) before.core)) → IsOn (rounds + 1) budget last (view f) after (cycles + 1)
     next-on same none coupled runs =
         let on_now = runs-on result (cycles + 1) budget (view f) progressed none in
         let behind = on_now.1 in

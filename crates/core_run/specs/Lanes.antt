@@ -1,8 +1,7 @@
 -- One core's engine and its side of a memory.
 use Rattle.std.specs.Prelude.{◌≡◌, ℕ, ◌+◌, Bool, true, false, IsTrue, Option, Some, None, option_map, if◌then◌else◌, List, [], ◌∷◌, ◌++◌, ◌≤◌}
 use Rattle.mips_isa.specs.declared.Stop.{Stop}
-use Rattle.mips_isa.specs.Steps.{start}
-use Rattle.image_file.specs.Value.{ImageValue, memory_bytes}
+use Rattle.image_file.specs.Value.{ImageValue, memory_bytes, start_state}
 use Rattle.access_log.specs.Requests.{fetch_of}
 use Rattle.access_log.specs.Alone.{ComesTo}
 use Rattle.access_log.specs.declared.request.Request.{Request}
@@ -20,8 +19,8 @@ use Rattle.core_run.specs.declared.lane.Came.{Came}
 use Rattle.core_run.specs.Cycle.{wait_left}
 
 -- The core of an engine comes by itself, with these accesses, to where the engine stands.
-pub record RunsAlone (e : EngineView) (accesses : List Entry) : Type 0 where
-  pub comes : ComesTo e.image.code (memory_bytes e.image) e.cores e.core accesses e.executed e.state
+pub record HasCome (e : EngineView) (accesses : List Entry) : Type 0 where
+  pub comes : ComesTo e.image.code (memory_bytes e.image) (start_state e.image e.core e.cores) accesses e.executed e.state
 
 -- A request is asked and served.
 pub record SideSends (p : Port) (r : Request) (old new : SideView) : Type 0 where
@@ -117,6 +116,6 @@ pub record IsStarted (image : ImageValue) (core cores : ℕ) (e : EngineView) : 
   pub core_is : e.core ≡ core
   pub cores_are : e.cores ≡ cores
   pub executed : e.executed ≡ 0
-  pub state : e.state ≡ start core cores
+  pub state : e.state ≡ start_state image core cores
   pub live : e.is_live ≡ true
   pub sound : IsSound e

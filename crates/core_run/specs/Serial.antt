@@ -2,7 +2,7 @@
 use Rattle.std.specs.Prelude.{◌≡◌, ℕ, ◌+◌, ◌<◌, ◌≤◌, ◌⊎◌, ◌==◌, if◌then◌else◌, Bool, true, false, ◌&&◌, not, Option, Some, None, List, ◌++◌, length, slice_get, map}
 use Rattle.std.specs.List.{AllByRecursion}
 use Rattle.mips_isa.specs.declared.Stop.{Stop}
-use Rattle.image_file.specs.Value.{ImageValue, start_memory, code_lines}
+use Rattle.image_file.specs.Value.{ImageValue, code_lines, start_memory, start_states}
 use Rattle.access_log.specs.declared.Entry.{Entry}
 use Rattle.access_log.specs.declared.Item.{Item}
 use Rattle.access_log.specs.Items.{entries}
@@ -26,7 +26,7 @@ use Rattle.mem_port.specs.Pace.{Pace}
 use Rattle.mem_port.specs.Side.{side_of}
 use Rattle.core_run.specs.declared.lane.Lane.{Lane}
 use Rattle.core_run.specs.declared.serial.Seat.{Seat}
-use Rattle.core_run.specs.Lanes.{RunsAlone, IsCoupled, IsFinished, IsStarted, IsClosed, IsNoTighter, bound_of}
+use Rattle.core_run.specs.Lanes.{HasCome, IsCoupled, IsFinished, IsStarted, IsClosed, IsNoTighter, bound_of}
 
 -- An end is the stop at which the core stands, within the budget, or comes after the whole budget.
 abbrev pub EndFits : End → ℕ → ℕ → Option Stop → Type 0
@@ -42,7 +42,7 @@ end_after progress.Running cycles budget = if cycles == budget then Some Spent e
 -- budget.
 pub record IsOn (rounds budget : ℕ) (m : MemoryView) (e : EngineView) (lane : Lane) (cycles : ℕ) : Type 0 where
   pub coupled : IsCoupled e (side_of m lane.core) lane
-  pub runs : RunsAlone e (committed m lane.core)
+  pub runs : HasCome e (committed m lane.core)
   pub live : e.is_live ≡ true
   pub count : cycles ≡ rounds
   pub more : rounds < budget
@@ -53,7 +53,7 @@ pub record IsOn (rounds budget : ℕ) (m : MemoryView) (e : EngineView) (lane : 
 -- A core that has ended.
 pub record IsOver (budget : ℕ) (m : MemoryView) (e : EngineView) (lane : Lane) (end : End) (cycles : ℕ) : Type 0 where
   pub finished : IsFinished e (side_of m lane.core) lane.core
-  pub runs : RunsAlone e (committed m lane.core)
+  pub runs : HasCome e (committed m lane.core)
   pub fits : EndFits end budget cycles (stop e.image e.state)
 
 -- By its end, if there is one.
@@ -81,7 +81,7 @@ pub record IsRun (image : ImageValue) (cores budget : ℕ) (caches : Option Cach
   pub count : length outcome.cores ≡ cores
   pub within : AllByRecursion (λ entry. entry.core < cores) (entries outcome.items)
   pub words : length outcome.words ≡ length (start_memory image)
-  pub replays : replay image.code (start_memory image) cores (entries outcome.items) (map (λ (ended : CoreEnd). ended.retired) outcome.cores)
+  pub replays : replay image.code (start_memory image) (start_states image cores) (entries outcome.items) (map (λ (ended : CoreEnd). ended.retired) outcome.cores)
       ≡ Some (record { code = image.code; cores = map final_of outcome.cores; memory = outcome.words })
   pub follows : Follows caches cores (code_lines image) outcome.items
   pub ends : (core : ℕ) (ended : CoreEnd) → slice_get outcome.cores core ≡ Some ended

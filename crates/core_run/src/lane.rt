@@ -10,7 +10,7 @@ ghost use Rattle.mem_port.specs.Ports.{core_of, MayAsk};
 ghost use Rattle.mem_port.specs.Side.{KeepsSide, mark};
 ghost use Rattle.core_run.specs.declared.lane.Came.{Came};
 ghost use Rattle.core_run.specs.Cycle.{IsCycle, IsEnding, IsDrained, sends, opens, takes, steps, cycle_calls, lane_after, moved_in, withdraws};
-ghost use Rattle.core_run.specs.Lanes.{RunsAlone, IsCoupled, SideSends, HasAsks, PortHolds, Progressed, IsFinished, StopsWhereDead, IsClosed};
+ghost use Rattle.core_run.specs.Lanes.{HasCome, IsCoupled, SideSends, HasAsks, PortHolds, Progressed, IsFinished, StopsWhereDead, IsClosed};
 ghost use Rattle.core_run.specs.Meets.{Makes, Opens, TakesUp, StepsOn, Meets, Closes};
 
 use crate::CoreSide;
@@ -166,7 +166,7 @@ pub fn cycle<E: CoreEngine, S: CoreSide>(
     requires asks { HasAsks (S.view side.old lane.old.core) lane.old }
     ensures serves { S.serves side.new lane.old.core }
     ensures coupled { IsCoupled (E.view engine.new) (S.view side.new lane.old.core) lane.new }
-    ensures runs { RunsAlone (E.view engine.old) (S.view side.old lane.old.core).taken → RunsAlone (E.view engine.new) (S.view side.new lane.old.core).taken }
+    ensures runs { HasCome (E.view engine.old) (S.view side.old lane.old.core).taken → HasCome (E.view engine.new) (S.view side.new lane.old.core).taken }
     ensures progressed { Progressed result (E.view engine.new) }
     ensures kept { KeepsSide (S.view side.old lane.old.core) (S.view side.new lane.old.core) }
     ensures others { S.leaves_others lane.old.core side.old side.new }
@@ -215,7 +215,7 @@ pub fn finish<E: CoreEngine, S: CoreSide>(engine: &mut E, side: &mut S, lane: &m
     requires dead { StopsWhereDead (E.view engine.old) }
     ensures serves { S.serves side.new lane.old.core }
     ensures finished { IsFinished (E.view engine.new) (S.view side.new lane.old.core) lane.old.core }
-    ensures runs { RunsAlone (E.view engine.old) (S.view side.old lane.old.core).taken → RunsAlone (E.view engine.new) (S.view side.new lane.old.core).taken }
+    ensures runs { HasCome (E.view engine.old) (S.view side.old lane.old.core).taken → HasCome (E.view engine.new) (S.view side.new lane.old.core).taken }
     ensures kept { KeepsSide (S.view side.old lane.old.core) (S.view side.new lane.old.core) }
     ensures others { S.leaves_others lane.old.core side.old side.new }
     ensures ending { (access : Withdrawal) × ((fetch : Withdrawal) × IsEnding E.view E.timed S.view S.makes S.paid access fetch engine.old engine.new side.old side.new lane.old lane.new) }

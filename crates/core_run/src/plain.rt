@@ -8,7 +8,7 @@ ghost use Rattle.core_run.specs.PlainView.{plain_view, IsPlainPace, under_way};
 
 use crate::TimedEngine;
 use access_log::Request;
-use image_file::Image;
+use image_file::{Image, start_state};
 use mem_port::{CoreEngine, Progress};
 use mips_isa::{CoreState, Next, steps};
 use std::alloc::Global;
@@ -54,7 +54,7 @@ impl<'a> Plain<'a> {
             image,
             core,
             cores,
-            state: steps::start(core, cores),
+            state: start_state(image, core, cores),
             executed: 0,
             phase: Phase::Begin,
             clocks_left: u32::MAX,

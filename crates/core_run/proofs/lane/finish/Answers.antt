@@ -1,7 +1,7 @@
 use Rattle.std.specs.Prelude.{option_map}
 use Rattle.access_log.specs.Requests.{fetch_of}
 use Rattle.std.proofs.Common.{◌≡◌, refl, sym, subst}
-use Rattle.core_run.specs.Lanes.{RunsAlone}
+use Rattle.core_run.specs.Lanes.{HasCome}
 use Rattle.core_run.proofs.LaneLemmas.{makes-then, open-lives, fetch-held, closed-was, closed-taken, closed-asks, runs-drained}
 use Rattle.core_run.proofs.lane.finish.Goals as goal
 
@@ -20,7 +20,7 @@ returns-clause-runs g c =
     let f = c.requires.coupled in
     let a = c.close_port-access.ensures.met e.access f.access in
     let b = c.close_port-fetch.ensures.met (option_map fetch_of e.fetch) (fetch-held e c.args.lane.now _ _ _ f a) in
-    λ h. subst (λ es. RunsAlone (g.E.CoreEngine.view c.drain_open.new.engine) es) (sym (closed-taken e c.args.lane.now _ _ _ _ _ f a b))
+    λ h. subst (λ es. HasCome (g.E.CoreEngine.view c.drain_open.new.engine) es) (sym (closed-taken e c.args.lane.now _ _ _ _ _ f a b))
     (runs-drained g.E.CoreEngine.view g.E.CoreEngine.timed _ c.close_port-access.result _ _ _ _ f.sound c.drain_open.ensures.drained f.access h)
 
 pub returns-clause-ending : goal.returns-clause-ending

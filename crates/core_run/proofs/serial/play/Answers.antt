@@ -4,7 +4,7 @@ use Rattle.timetable.specs.declared.End.{End}
 use Rattle.mem_port.specs.Memory.{committed}
 use Rattle.mem_port.specs.Side.{LeavesOthers, ServesCore, side_of}
 use Rattle.mem_port.proofs.SideLaws.{goes_on-view}
-use Rattle.core_run.specs.Lanes.{RunsAlone, IsCoupled}
+use Rattle.core_run.specs.Lanes.{HasCome, IsCoupled}
 use Rattle.core_run.specs.Serial.{IsServedAt, Leads}
 use Rattle.core_run.proofs.CycleLaws.{cycle-core, ending-core}
 use Rattle.core_run.proofs.EndLaws.{dead-stops}
@@ -83,7 +83,7 @@ returns-clause-at g c rounds at =
       holds = ended-over g.E.CoreEngine.view g.E.CoreEngine.timed (λ (s : MutBor g.row.M.Denot). g.M.MemoryCore.view s.now) k.ending.1.1 c.cycle-progress.result c.in-Some.end (search rules) f.progressed
           (sym c.end_after.ensures.end ∙ c.in-Some.is) (omega (arith, on.count, on.more))
           (subst (λ (core : ℕ). IsCoupled (g.E.CoreEngine.view c.cycle-progress.new.engine) (side_of middle core) c.cycle-progress.new.lane) same f.coupled) k.finished
-          (k.runs (subst (λ (core : ℕ). RunsAlone (g.E.CoreEngine.view c.cycle-progress.new.engine) (committed middle core)) same (f.runs on.runs)));
+          (k.runs (subst (λ (core : ℕ). HasCome (g.E.CoreEngine.view c.cycle-progress.new.engine) (committed middle core)) same (f.runs on.runs)));
     }
 
 pub returns-clause-served : goal.returns-clause-served
