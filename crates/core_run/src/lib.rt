@@ -1,4 +1,10 @@
 //! Cores that run against a memory: one cycle of a core, its end, and cores that take turns.
+//!
+//! Laws that crates above cite:
+//!
+//! - `proofs/CycleLaws`: the pace at which a core's cycle serves its engine, and that it is no tighter
+//!   than the side behind it.
+//! - `proofs/LeadLaws`: calls behind others lead on, and calls on what holds a memory are calls on it.
 #![tactic(auto)]
 
 mod lane;
