@@ -14,7 +14,7 @@ use Rattle.access_log.specs.Stamps.{Stamp}
 use Rattle.timetable.specs.declared.End.{End}
 use Rattle.timetable.specs.declared.End.TheVariants as ends
 use Rattle.timetable.specs.declared.CoreEnd.{CoreEnd}
-use Rattle.timetable.specs.Cycles.{plain_cycles, EndsRightly}
+use Rattle.right_run.specs.Cycles.{plain_cycles, EndsRightly}
 use Rattle.mem_port.specs.Loaded.{next_in, stop_in, stop, request}
 use Rattle.mem_port.specs.Engine.{EngineView}
 use Rattle.mem_port.specs.Pace.{Pace}

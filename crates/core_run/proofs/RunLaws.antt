@@ -7,6 +7,8 @@ use Rattle.std.proofs.lemmas.Option.{same_Some, slice_get_within}
 use Rattle.std.proofs.lemmas.List.Elements.{filter-append}
 use Rattle.std.proofs.lemmas.List.{append-nil, length-append, length-map}
 use Rattle.kmp_base.specs.declared.setup.Setup.{Setup}
+use Rattle.kmp_base.specs.declared.setup.MachineKind.TheVariants as machines
+use Rattle.kmp_base.specs.declared.setup.Turns.TheVariants as turns
 use Rattle.image_file.specs.Value.{ImageValue}
 use Rattle.access_log.specs.declared.Entry.{Entry}
 use Rattle.access_log.specs.declared.Item.{Item}
@@ -18,8 +20,9 @@ use Rattle.access_log.proofs.StampLaws.{own-stamps}
 use Rattle.timetable.specs.declared.CoreEnd.{CoreEnd}
 use Rattle.timetable.specs.declared.rows.TimeRow.{TimeRow}
 use Rattle.timetable.specs.Outcome.{OutcomeValue}
-use Rattle.timetable.specs.Right.{IsRight}
-use Rattle.timetable.specs.Turns.{in_cycles, IsInTurns}
+use Rattle.right_run.specs.Right.{IsRight}
+use Rattle.right_run.specs.Turns.{in_cycles, IsInRounds, IsInTurns}
+use Rattle.right_run.proofs.PlainLaws.{right-from_plain, turns-rounds}
 use Rattle.mem_port.specs.Engine.{EngineView}
 use Rattle.mem_port.specs.Memory.{MemoryView, IsFresh, IsAtOnce}
 use Rattle.mem_port.specs.Pace.{Pace, IsFirstPace}
@@ -86,7 +89,7 @@ own-cycles-of cores stamps within own_cycles core (inr out) =
 
 -- Accesses in turns, of cores that each make them in their own cycles.
 in-turns : (cores rounds turn : ℕ) (items : List Item) (stamps : List Stamp) → AreInTurns rounds turn items stamps → AllByRecursion (λ entry. entry.core < cores) (entries items)
-    → ((core : ℕ) → core < cores → own_stamps stamps core ≡ in_own_cycles 0 (map entry_in (own_stamps stamps core))) → IsInTurns (entries items)
+    → ((core : ℕ) → core < cores → own_stamps stamps core ≡ in_own_cycles 0 (map entry_in (own_stamps stamps core))) → IsInRounds (entries items)
 in-turns cores rounds turn items stamps h within own_cycles =
     let inside = subst (AllByRecursion (λ (entry : Entry). entry.core < cores)) (sym h.are) within in
     let same = in-cycles [] stamps (λ core. own-cycles-of cores stamps inside own_cycles core (cases_lt core cores)) in
@@ -135,8 +138,9 @@ module _ (setup : Setup) (image : ImageValue) (outcome : OutcomeValue) (paces : 
       prompt-end image e.image.now core setup.cores e.core e.cores ended (paces core) e.state e.executed e.clocks_left e.phase f.1.1.0 f.1.1.1.1.0 f.0
 
   -- Such a run is right.
-  pub run-right : IsRight setup image outcome
-  run-right = record {
+  pub run-right : setup.machine ≡ machines.Plain → IsRight setup image outcome
+  run-right plain = right-from_plain setup image outcome (record {
+    plain = plain;
     replays = run.replays;
     ends = λ core ended got.
         (let accesses = (paces core).service.accesses in
@@ -144,10 +148,10 @@ module _ (setup : Setup) (image : ImageValue) (outcome : OutcomeValue) (paces : 
         rw (← count) ((end-at core ended got).rightly setup.budget (run.ends core ended got)));
     no_transaction = run.follows;
     no_rows = λ core ended got. (each core ended got).1.1.1.0;
-  }
+  })
 
   run-turns : (stamps : List Stamp) → AreInTurns setup.budget 0 outcome.items stamps → ((core : ℕ) → core < setup.cores → (paces core).service.accesses ≡ own_stamps stamps core)
-      → IsInTurns (entries outcome.items)
+      → IsInRounds (entries outcome.items)
   run-turns stamps turns received = in-turns setup.cores setup.budget 0 outcome.items stamps turns run.within
       (λ core in_range.
       (let some = slice_get_some outcome.cores core (omega (arith, run.count)) in
@@ -158,11 +162,12 @@ pub run-fresh : (image : ImageValue) (cores budget : ℕ) (m : MemoryView) (outc
 run-fresh image cores budget m outcome fresh run = rw (fresh.image_is, fresh.cores_are, fresh.caches_are) at run
 
 -- What a run in turns is, on a memory that answers each request as it is served.
-pub run-prompt : (setup : Setup) (image : ImageValue) (m : MemoryView) (outcome : OutcomeValue) (paces : ℕ → Pace) → IsFresh image setup.cores setup.budget None m → IsAtOnce m
-    → IsRun m.image m.cores setup.budget m.caches outcome → IsServedRun view_of (λ e. []) times_of m setup.budget outcome paces → IsRight setup image outcome × IsInTurns (entries outcome.items)
-run-prompt setup image m outcome paces fresh once run served =
+pub run-prompt : (setup : Setup) (image : ImageValue) (m : MemoryView) (outcome : OutcomeValue) (paces : ℕ → Pace) → setup.machine ≡ machines.Plain → setup.turns ≡ turns.Round → IsFresh image setup.cores setup.budget None m → IsAtOnce m
+    → IsRun m.image m.cores setup.budget m.caches outcome → IsServedRun view_of (λ e. []) times_of m setup.budget outcome paces → IsRight setup image outcome × IsInTurns setup (entries outcome.items)
+run-prompt setup image m outcome paces plain round fresh once run served =
     let at_once = served.at_once once in
     let same = run-fresh image setup.cores setup.budget m outcome fresh run in
     let each : EndsPrompt image setup.cores outcome paces = λ core ended got.
     (at_once.waited core (let within = slice_get_within outcome.cores core ended got in omega (arith, within, run.count)), rw (fresh.image_is, fresh.cores_are, once.told, once.bound) at served.ends core ended got) in
-    (run-right setup image outcome paces same each, run-turns setup image outcome paces same each at_once.stamps at_once.turns (λ core within. at_once.received core (rw fresh.cores_are within)))
+    let order = run-turns setup image outcome paces same each at_once.stamps at_once.turns (λ core within. at_once.received core (rw fresh.cores_are within)) in
+    (run-right setup image outcome paces same each plain, turns-rounds setup (entries outcome.items) plain round order)

@@ -5,8 +5,8 @@ ghost use Rattle.kmp_base.specs.Limits.{IsWithinLimits};
 ghost use Rattle.kmp_base.specs.declared.setup.MachineKind.TheVariants as machines;
 ghost use Rattle.kmp_base.specs.declared.setup.Turns.TheVariants as turns;
 ghost use Rattle.access_log.specs.Items.{entries};
-ghost use Rattle.timetable.specs.Right.{IsRight};
-ghost use Rattle.timetable.specs.Turns.{IsInTurns};
+ghost use Rattle.right_run.specs.Right.{IsRight};
+ghost use Rattle.right_run.specs.Turns.{IsInTurns};
 ghost use Rattle.mem_port.specs.Pace.{Pace, IsFirstPace};
 ghost use Rattle.core_run.specs.Serial.{AreFirst};
 ghost use Rattle.core_run.specs.declared.plain.Plain.{Plain};
@@ -44,7 +44,7 @@ pub fn run_serial(alloc: Global, image: &Image, setup: &Setup) -> Result<Outcome
     requires plain { setup.now.machine ≡ machines.Plain }
     requires round { setup.now.turns ≡ turns.Round }
     ensures right { IfOk result (IsRight setup.now image.now) }
-    ensures turns { IfOk result (λ outcome. IsInTurns (entries outcome.items)) }
+    ensures turns { IfOk result (λ outcome. IsInTurns setup.now (entries outcome.items)) }
     ensures cores { IfOk result (λ outcome. length outcome.cores ≡ setup.now.cores) }
     ensures words { IfOk result (λ outcome. length outcome.words ≡ 2 * image.now.memory_lines) }
     ensures within { IfOk result (λ outcome. AllByRecursion (λ entry. entry.core < setup.now.cores) (entries outcome.items)) }
