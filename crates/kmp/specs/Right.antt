@@ -3,7 +3,7 @@ use Rattle.std.specs.Prelude.{◌≡◌}
 use Rattle.kmp_base.specs.declared.setup.Setup.{Setup}
 use Rattle.image_file.specs.Value.{ImageValue}
 use Rattle.access_log.specs.Items.{entries}
-use Rattle.timetable.specs.Turns.{IsInTurns}
+use Rattle.right_run.specs.Turns.{IsInTurns}
 use Rattle.report_text.specs.Report.{ReportValue}
 use Rattle.report_text.specs.Form.{IsReport}
 use Rattle.report_text.specs.Right.{IsRightReport}
@@ -15,4 +15,4 @@ pub record IsReportOf (setup : Setup) (image : ImageValue) (report : ReportValue
   pub right : IsRightReport report
   pub form : IsReport report
   -- Its accesses stand in the order of the cores' turns.
-  pub turns : IsInTurns (entries report.items)
+  pub turns : IsInTurns setup (entries report.items)
