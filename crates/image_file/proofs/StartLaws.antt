@@ -1,9 +1,10 @@
 -- How many words memory has at the start, and which states the cores.
-use Rattle.std.proofs.Common.{◌≡◌, ℕ, ◌+◌, ◌-◌, ◌*◌, ◌/◌, ◌%◌, ◌≤◌, List, [], ◌∷◌, length, ◌∙◌, ap, subst, arith}
+use Rattle.std.proofs.Common.{◌≡◌, ℕ, ◌+◌, ◌-◌, ◌*◌, ◌/◌, ◌%◌, ◌≤◌, List, [], ◌∷◌, length, refl, ◌∙◌, ap, subst, arith}
 use Rattle.std.specs.Prelude.{◌<◌, Some, slice_get}
 use Rattle.std.proofs.lemmas.Grind.{common_steps}
 use Rattle.std.proofs.lemmas.Option.{slice_get-get_or}
 use Rattle.std.proofs.lemmas.List.FromFn.{get_or-map-range_with_len, length-map-range_with_len}
+use Rattle.mips_isa.specs.Steps.{start}
 use Rattle.image_file.specs.Value.{ImageValue, SegmentValue, IsGood, AreApart, memory_bytes, with_segment, with_segments, filled, start_memory, start_state, start_states}
 
 pub segment-length : (memory : List ℕ) (s : SegmentValue) → length (with_segment memory s) ≡ length memory + ((s.start / 4 - length memory) + length s.words)
@@ -44,3 +45,7 @@ start_states-at image cores core within =
     let long : core < length (start_states image cores) = (let e : length (start_states image cores) ≡ cores = length-start_states image cores in omega arith) in
     slice_get-get_or (start_states image cores) core (state 0) long
     ∙ ap Some (get_or-map-range_with_len state 0 cores core core (state 0) within (omega arith))
+
+pub registers-start_state : (image : ImageValue) (cores core : ℕ) → length (start_state image core cores).regs ≡ 32
+unfolding start
+registers-start_state image cores core = refl

@@ -39,11 +39,11 @@ made_all report items start machine items_are start_is made = rw (items_are, sta
 -- it has the report's code, as many cores, and as much memory
 pub machine_fits : (report : ReportValue) (machine : FlatMachine) → entered_all (entries report.items) (machine_of report) ≡ Some machine
     → IsMachine report.image.code report.setup.cores (length (start_memory report.image)) machine
-machine_fits report machine made = is_machine report.image.code (start_memory report.image) report.setup.cores (entries report.items) machine made
+machine_fits report machine made = is_machine report.image (start_memory report.image) report.setup.cores (entries report.items) machine made
 
 pub start_fits : (report : ReportValue) → IsMachine report.image.code report.setup.cores (length (start_memory report.image)) (machine_of report)
 unfolding entered_all
-start_fits report = is_machine report.image.code (start_memory report.image) report.setup.cores [] (machine_of report) refl
+start_fits report = is_machine report.image (start_memory report.image) report.setup.cores [] (machine_of report) refl
 
 pub items_within : (report : ReportValue) (items : List Item) (start : FlatMachine) → IsReport report → items ≡ report.items → start ≡ machine_of report
     → AllByRecursion (IsItem (length start.cores) (memory_bytes start)) items

@@ -8,7 +8,7 @@ use Rattle.mips_isa.specs.declared.Next.TheVariants.{Stops, Asks, Goes}
 use Rattle.access_log.specs.declared.Core.{Core}
 use Rattle.timetable.specs.declared.End.{End}
 use Rattle.timetable.specs.declared.End.TheVariants.{Stopped, Spent}
-use Rattle.timetable.specs.Cycles.{plain_cycles, EndsRightly}
+use Rattle.right_run.specs.Cycles.{plain_cycles, EndsRightly}
 use Rattle.report_rows.specs.Ends.{EndValue}
 use Rattle.replayer.specs.Judgments.{is_same_end, registers_judged}
 use Rattle.replayer.specs.Cores.{due_end, may_be_spent, due_cycles, end_judged}

@@ -5,7 +5,9 @@ use Rattle.std.specs.Option.{option_and_then}
 use Rattle.std.specs.List.{AllByRecursion}
 use Rattle.std.proofs.lemmas.List.{length-map}
 use Rattle.std.proofs.lemmas.Simd.{map-map}
-use Rattle.image_file.specs.Value.{ImageValue, start_memory}
+use Rattle.kmp_base.specs.declared.setup.MachineKind.TheVariants.{Plain}
+use Rattle.mips_isa.specs.declared.CoreState.{CoreState}
+use Rattle.image_file.specs.Value.{ImageValue, start_memory, start_states}
 use Rattle.image_file.specs.Value as images
 use Rattle.access_log.specs.declared.Core.{Core}
 use Rattle.access_log.specs.declared.Entry.{Entry}
@@ -17,7 +19,8 @@ use Rattle.access_log.proofs.ReplayLaws.{and_then_parts}
 use Rattle.timetable.specs.declared.CoreEnd.{CoreEnd}
 use Rattle.timetable.specs.declared.rows.TimeRow.{TimeRow}
 use Rattle.timetable.specs.Outcome.{OutcomeValue, final_of}
-use Rattle.timetable.specs.Right.{IsRight, EndsAt}
+use Rattle.right_run.specs.Right.{EndsOn}
+use Rattle.right_run.proofs.PlainLaws.{IsRightOnPlain, right-on_plain, right-from_plain}
 use Rattle.report_rows.specs.declared.MemoryWord.{MemoryWord}
 use Rattle.report_rows.specs.Bounds.{IsItem, IsEnd}
 use Rattle.report_rows.specs.Ends.{EndValue, end_value}
@@ -65,15 +68,15 @@ all_agree report machine is none =
 abbrev outcome_of : ReportValue → List ℕ → OutcomeValue
 outcome_of report words = record { cores = map core_end report.cores; words = words; items = report.items }
 
-replay_is : (code memory : List ℕ) (cores budget : ℕ) (order : List Entry) (ends : List EndValue) (machine : FlatMachine) → entered_all order (started code memory cores) ≡ Some machine
+replay_is : (code memory : List ℕ) (starts : List CoreState) (budget : ℕ) (order : List Entry) (ends : List EndValue) (machine : FlatMachine) → entered_all order (started code memory starts) ≡ Some machine
     → machine.code ≡ code → AreRight budget machine order 0 ends machine.cores
-    → replay code memory cores order (map (λ (ended : CoreEnd). ended.retired) (map core_end ends)) ≡ Some (machine_with code (map final_of (map core_end ends)) machine.memory)
+    → replay code memory starts order (map (λ (ended : CoreEnd). ended.retired) (map core_end ends)) ≡ Some (machine_with code (map final_of (map core_end ends)) machine.memory)
 unfolding replay
-replay_is code memory cores budget order ends machine made code_is right =
+replay_is code memory starts budget order ends machine made code_is right =
     let counts = map-map (λ (ended : CoreEnd). ended.retired) core_end ends in
     let last = ended-caught_up machine.code 0 (map retired_of ends) [] machine.cores right.finals machine.memory refl right.caught in
     let finals = finals_are budget machine.code (memory_bytes machine) order 0 ends right.finals right.right in
-    ap (λ ns. option_and_then (ended 0 ns) (entered_all order (started code memory cores))) counts
+    ap (λ ns. option_and_then (ended 0 ns) (entered_all order (started code memory starts))) counts
     ∙ ap (option_and_then (ended 0 (map retired_of ends))) made
     ∙ last
     ∙ ap (λ (cs : List Core). Some (machine_with machine.code cs machine.memory)) finals
@@ -97,12 +100,12 @@ memory_is report machine is words = ap (λ n. 4 * n) words ∙ bytes_are report 
 
 machine_is : (report : ReportValue) (machine : FlatMachine) → entered_all (entries report.items) (machine_of report) ≡ Some machine
     → IsMachine report.image.code report.setup.cores (length (start_memory report.image)) machine
-machine_is report machine made = is_machine report.image.code (start_memory report.image) report.setup.cores (entries report.items) machine made
+machine_is report machine made = is_machine report.image (start_memory report.image) report.setup.cores (entries report.items) machine made
 
 ends_are : (report : ReportValue) (machine : FlatMachine) (finals : List Core) → machine.code ≡ report.image.code → memory_bytes machine ≡ images.memory_bytes report.image
     → EndRightly report.setup.budget machine.code (memory_bytes machine) (entries report.items) 0 report.cores finals
     → (core : ℕ) (ended : CoreEnd) → slice_get (map core_end report.cores) core ≡ Some ended
-    → EndsAt report.setup report.image (outcome_of report machine.memory) core ended × (ended.rows.rows ≡ [])
+    → EndsOn Plain report.setup.budget report.image (outcome_of report machine.memory) core ended
 ends_are report machine finals code_is bytes_is right core ended here =
     let e : 0 + core ≡ core = omega arith in
     rw (code_is, bytes_is, e) at (ends_at report.setup.budget machine.code (memory_bytes machine) (entries report.items) 0 report.cores finals right core ended here)
@@ -127,12 +130,13 @@ no_difference_is_right report is machine made none =
     let ends = ends_are report machine right.finals fits.code_is (memory_is report machine is fits.words_are) right.right in
     record {
       outcome = outcome_of report machine.memory;
-      right = record {
-        replays = replay_is report.image.code (start_memory report.image) report.setup.cores report.setup.budget (entries report.items) report.cores machine made fits.code_is right;
+      right = right-from_plain report.setup report.image (outcome_of report machine.memory) (record {
+        plain = is.header.machine;
+        replays = replay_is report.image.code (start_memory report.image) (start_states report.image report.setup.cores) report.setup.budget (entries report.items) report.cores machine made fits.code_is right;
         ends = λ core ended here. (ends core ended here).0;
-        no_transaction = no_bus report.setup.cores (images.memory_bytes report.image) report.items is.items;
         no_rows = λ core ended here. (ends core ended here).1;
-      };
+        no_transaction = no_bus report.setup.cores (images.memory_bytes report.image) report.items is.items;
+      });
       is = same_report report machine is all;
     }
 
@@ -157,19 +161,19 @@ tells report outcome is =
     }
 
 -- the machine of a replay, before its cores catch up and behind
-record Replays (code memory : List ℕ) (cores : ℕ) (order : List Entry) (counts : List ℕ) (finals : List Core) (words : List ℕ) (machine : FlatMachine) : Type 0 where
-  pub made : entered_all order (started code memory cores) ≡ Some machine
+record Replays (image : ImageValue) (cores : ℕ) (order : List Entry) (counts : List ℕ) (finals : List Core) (words : List ℕ) (machine : FlatMachine) : Type 0 where
+  pub made : entered_all order (started image.code (start_memory image) (start_states image cores)) ≡ Some machine
   pub caught : AreCaughtUp machine.code (memory_bytes machine) counts machine.cores finals
   pub words_are : machine.memory ≡ words
 
-replays_so : (code memory : List ℕ) (cores : ℕ) (order : List Entry) (counts : List ℕ) (finals : List Core) (words : List ℕ) → length counts ≡ cores
-    → replay code memory cores order counts ≡ Some (machine_with code finals words) → (machine : FlatMachine) × Replays code memory cores order counts finals words machine
+replays_so : (image : ImageValue) (cores : ℕ) (order : List Entry) (counts : List ℕ) (finals : List Core) (words : List ℕ) → length counts ≡ cores
+    → replay image.code (start_memory image) (start_states image cores) order counts ≡ Some (machine_with image.code finals words) → (machine : FlatMachine) × Replays image cores order counts finals words machine
 unfolding replay
-replays_so code memory cores order counts finals words few run =
-    let parts = and_then_parts (ended 0 counts) (entered_all order (started code memory cores)) (machine_with code finals words) run in
+replays_so image cores order counts finals words few run =
+    let parts = and_then_parts (ended 0 counts) (entered_all order (started image.code (start_memory image) (start_states image cores))) (machine_with image.code finals words) run in
     let machine : FlatMachine = parts.0 in
-    let fits = is_machine code memory cores order machine parts.1 in
-    let last = caught_up-ended machine.code 0 counts [] machine.cores machine.memory (machine_with code finals words) refl (few ∙ sym fits.cores_are) parts.2 in (
+    let fits = is_machine image (start_memory image) cores order machine parts.1 in
+    let last = caught_up-ended machine.code 0 counts [] machine.cores machine.memory (machine_with image.code finals words) refl (few ∙ sym fits.cores_are) parts.2 in (
       machine,
       record {
         made = parts.1;
@@ -178,13 +182,13 @@ replays_so code memory cores order counts finals words few run =
       },
     )
 
-ends_rightly : (report : ReportValue) (outcome : OutcomeValue) → IsRight report.setup report.image outcome
+ends_rightly : (report : ReportValue) (outcome : OutcomeValue) → IsRightOnPlain report.setup report.image outcome
     → EndRightly report.setup.budget report.image.code (images.memory_bytes report.image) (entries outcome.items) 0 (map end_value outcome.cores) (map final_of outcome.cores)
 ends_rightly report outcome right =
     end_rightly report.setup.budget report.image.code (images.memory_bytes report.image) (entries outcome.items) 0 outcome.cores
     (λ core ended here. (let e : 0 + core ≡ core = omega arith in rw e (right.ends core ended here)))
 
-none_in : (report : ReportValue) (outcome : OutcomeValue) (machine : FlatMachine) → IsReport report → IsRight report.setup report.image outcome → Tells report outcome
+none_in : (report : ReportValue) (outcome : OutcomeValue) (machine : FlatMachine) → IsReport report → IsRightOnPlain report.setup report.image outcome → Tells report outcome
     → entered_all (entries report.items) (machine_of report) ≡ Some machine
     → AreCaughtUp machine.code (memory_bytes machine) (map retired_of report.cores) machine.cores (map final_of outcome.cores) → machine.memory ≡ outcome.words
     → first_difference (outcome_judged report machine) ≡ None
@@ -210,8 +214,8 @@ right_has_no_difference report is right =
     let outcome = right.outcome in
     let told = tells report outcome right.is in
     let counts : map (λ (ended : CoreEnd). ended.retired) outcome.cores ≡ map retired_of report.cores = sym (map-map retired_of end_value outcome.cores) ∙ ap (map retired_of) told.cores in
-    let run : replay report.image.code (start_memory report.image) report.setup.cores (entries report.items) (map retired_of report.cores) ≡ Some (machine_with report.image.code (map final_of outcome.cores) outcome.words) =
+    let run : replay report.image.code (start_memory report.image) (start_states report.image report.setup.cores) (entries report.items) (map retired_of report.cores) ≡ Some (machine_with report.image.code (map final_of outcome.cores) outcome.words) =
     rw (← counts, ← told.items) right.right.replays in
     let few : length (map retired_of report.cores) ≡ report.setup.cores = length-map report.cores retired_of ∙ is.cores in
-    let by = replays_so report.image.code (start_memory report.image) report.setup.cores (entries report.items) (map retired_of report.cores) (map final_of outcome.cores) outcome.words few run in
-    (by.0, by.1.made, none_in report outcome by.0 is right.right told by.1.made by.1.caught by.1.words_are)
+    let by = replays_so report.image report.setup.cores (entries report.items) (map retired_of report.cores) (map final_of outcome.cores) outcome.words few run in
+    (by.0, by.1.made, none_in report outcome by.0 is (right-on_plain report.setup report.image outcome right.right) told by.1.made by.1.caught by.1.words_are)

@@ -2,8 +2,7 @@
 use Rattle.std.proofs.Common.{◌≡◌, ℕ, zero, suc, ◌-◌, ◌+◌, Bool, true, false, cond, List, [], ◌∷◌, length, refl, sym, ap, ◌∙◌}
 use Rattle.std.specs.Prelude.{◌==◌, Option, Some, None, map, slice_get, slice_set}
 use Rattle.std.specs.List.{AllByRecursion, range_with_len}
-use Rattle.std.proofs.lemmas.List.{length-set}
-use Rattle.std.proofs.lemmas.List.FromFn.{length-map-range_with_len}
+use Rattle.std.proofs.lemmas.List.{length-set, length-map}
 use Rattle.std.proofs.lemmas.Option.{none-some, same_Some}
 use Rattle.mips_isa.specs.declared.CoreState.{CoreState}
 use Rattle.mips_isa.specs.declared.Instr.{Instr}
@@ -12,7 +11,9 @@ use Rattle.mips_isa.specs.declared.Stop.{Stop}
 use Rattle.mips_isa.specs.declared.Next.{Next}
 use Rattle.mips_isa.specs.declared.Next.TheVariants.{Stops, Asks, Goes}
 use Rattle.mips_isa.specs.Effects.{kind_of}
-use Rattle.mips_isa.specs.Steps.{start, written_to, executed, answered, instr_at, stop_of, next_by, next_at, next_of, finish_by, kind_at, finish_of}
+use Rattle.mips_isa.specs.Steps.{written_to, executed, answered, instr_at, stop_of, next_by, next_at, next_of, finish_by, kind_at, finish_of}
+use Rattle.image_file.specs.Value.{ImageValue, start_state, start_states}
+use Rattle.image_file.proofs.StartLaws.{length-start_states, registers-start_state}
 use Rattle.access_log.specs.declared.Core.{Core}
 use Rattle.access_log.specs.declared.Entry.{Entry}
 use Rattle.access_log.specs.Memory.{due, is_same}
@@ -71,10 +72,6 @@ finish-count code state old = by_instr (instr_at code state.dpc) (kind_at (instr
     by_instr (Some instr) None = refl
     by_instr None kind = refl
 
-start-count : (core cores : ℕ) → length (start core cores).regs ≡ 32
-unfolding start
-start-count core cores = refl
-
 -- ---- cores
 
 abbrev pub HasRegisters : Core → Type 0
@@ -107,9 +104,9 @@ all-set [] i core all has = all
 all-set (first ∷ cores) zero core all has = (has, all.1)
 all-set (first ∷ cores) (suc i) core all has = (all.0, all-set cores i core all.1 has)
 
-all_start : (cores first n : ℕ) → AllByRecursion HasRegisters (map (starting cores) (range_with_len first n))
-all_start cores first zero = tt
-all_start cores first (suc n) = (start-count first cores, all_start cores (first + 1) n)
+all_start : (image : ImageValue) (cores first n : ℕ) → AllByRecursion HasRegisters (map starting (map (λ core. start_state image core cores) (range_with_len first n)))
+all_start image cores first zero = tt
+all_start image cores first (suc n) = (registers-start_state image cores first, all_start image cores (first + 1) n)
 
 -- A machine of this code, with so many cores, and so many words of memory.
 pub record IsMachine (code : List ℕ) (cores words : ℕ) (machine : FlatMachine) : Type 0 where
@@ -118,12 +115,12 @@ pub record IsMachine (code : List ℕ) (cores words : ℕ) (machine : FlatMachin
   pub cores_are : length machine.cores ≡ cores
   pub words_are : length machine.memory ≡ words
 
-is_started : (code memory : List ℕ) (cores : ℕ) → IsMachine code cores (length memory) (started code memory cores)
+is_started : (image : ImageValue) (memory : List ℕ) (cores : ℕ) → IsMachine image.code cores (length memory) (started image.code memory (start_states image cores))
 unfolding started
-is_started code memory cores = record {
+is_started image memory cores = record {
   code_is = refl;
-  registers = all_start cores 0 cores;
-  cores_are = length-map-range_with_len (starting cores) 0 cores;
+  registers = all_start image cores 0 cores;
+  cores_are = length-map (start_states image cores) starting ∙ length-start_states image cores;
   words_are = refl;
 }
 
@@ -162,5 +159,7 @@ is_entered code cores words (entry ∷ order) machine new made is =
       words_are = large.memory ∙ is.words_are;
     })
 
-pub is_machine : (code memory : List ℕ) (cores : ℕ) (order : List Entry) (machine : FlatMachine) → entered_all order (started code memory cores) ≡ Some machine → IsMachine code cores (length memory) machine
-is_machine code memory cores order machine made = is_entered code cores (length memory) order (started code memory cores) machine made (is_started code memory cores)
+pub is_machine : (image : ImageValue) (memory : List ℕ) (cores : ℕ) (order : List Entry) (machine : FlatMachine) → entered_all order (started image.code memory (start_states image cores)) ≡ Some machine
+    → IsMachine image.code cores (length memory) machine
+is_machine image memory cores order machine made =
+    is_entered image.code cores (length memory) order (started image.code memory (start_states image cores)) machine made (is_started image memory cores)

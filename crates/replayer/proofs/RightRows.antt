@@ -8,7 +8,7 @@ use Rattle.access_log.specs.declared.Core.{Core}
 use Rattle.access_log.specs.declared.Entry.{Entry}
 use Rattle.access_log.specs.Replay.{FlatMachine, memory_bytes, own}
 use Rattle.timetable.specs.declared.CoreEnd.{CoreEnd}
-use Rattle.timetable.specs.Cycles.{IsPlainEnd}
+use Rattle.right_run.specs.Cycles.{IsPlainEnd}
 use Rattle.timetable.specs.Outcome.{final_of}
 use Rattle.report_rows.specs.Bounds.{IsEnd}
 use Rattle.report_rows.specs.Ends.{EndValue, end_value}

@@ -9,7 +9,7 @@ use Rattle.access_log.specs.Replay.{FlatMachine, memory_bytes, quiet, own}
 use Rattle.access_log.specs.declared.field.Field.TheVariants as fields
 use Rattle.timetable.specs.declared.End.{End}
 use Rattle.timetable.specs.declared.End.TheVariants.{Stopped, Spent}
-use Rattle.timetable.specs.Cycles.{plain_cycles}
+use Rattle.right_run.specs.Cycles.{plain_cycles}
 use Rattle.report_rows.specs.Ends.{EndValue}
 use Rattle.replayer.specs.Judgments.{Judgment, number, word, end, allowed, registers_judged}
 

@@ -1,6 +1,6 @@
 -- What is due behind the accesses of a report.
 use Rattle.std.specs.Prelude.{ℕ, ◌+◌, List, ◌++◌, length, map}
-use Rattle.image_file.specs.Value.{start_memory}
+use Rattle.image_file.specs.Value.{start_memory, start_states}
 use Rattle.access_log.specs.Items.{entries}
 use Rattle.access_log.specs.Replay.{FlatMachine, started}
 use Rattle.report_rows.specs.Rows.{header_rows, memory_row}
@@ -26,7 +26,7 @@ counts_line report = length (run_rows report ++ rows_of_cores 0 report.cores ++ 
 
 -- the sequential machine at the start of what a report says was loaded
 abbrev pub machine_of : ReportValue → FlatMachine
-machine_of report = started report.image.code (start_memory report.image) report.setup.cores
+machine_of report = started report.image.code (start_memory report.image) (start_states report.image report.setup.cores)
 
 -- All rows behind the accesses, in order, by the machine that made these.
 abbrev pub outcome_judged : ReportValue → FlatMachine → List Judgment

@@ -16,8 +16,9 @@ use access_log::{Core, Field, Item};
 use image_file::Image;
 use mips_isa::{CoreState, Next, steps};
 use report_text::Report;
+use right_run::plain_cycles;
 use seq_machine::Machine;
-use timetable::{CoreEnd, End, plain_cycles};
+use timetable::{CoreEnd, End};
 
 /// The end that is due, by the cycles that a core used and by what comes next.
 fn due_end(budget: u32, used: u64, kept: End, next: &Next) -> End

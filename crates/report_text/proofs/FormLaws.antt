@@ -11,9 +11,9 @@ use Rattle.kmp_base.specs.declared.setup.MachineKind.TheVariants.{Plain}
 use Rattle.kmp_base.specs.Limits.{IsWithinLimits}
 use Rattle.mips_isa.specs.declared.Next.{Next}
 use Rattle.mips_isa.specs.Steps.{next_of}
-use Rattle.image_file.specs.Value.{ImageValue, IsGood, image_bytes, memory_bytes, start_memory}
+use Rattle.image_file.specs.Value.{ImageValue, IsGood, image_bytes, memory_bytes, start_memory, start_states}
 use Rattle.image_file.specs.Reading.{image_meaning}
-use Rattle.image_file.proofs.StartLaws.{bytes-start_memory}
+use Rattle.image_file.proofs.StartLaws.{bytes-start_memory, length-start_states}
 use Rattle.access_log.specs.declared.Entry.{Entry}
 use Rattle.access_log.specs.declared.Item.{Item}
 use Rattle.access_log.specs.declared.Item.TheVariants.{Done, Bus}
@@ -25,9 +25,9 @@ use Rattle.access_log.proofs.SplitLaws.{split}
 use Rattle.timetable.specs.declared.End.{End}
 use Rattle.timetable.specs.declared.End.TheVariants.{Stopped, Spent}
 use Rattle.timetable.specs.declared.CoreEnd.{CoreEnd}
-use Rattle.timetable.specs.Cycles.{EndsRightly}
 use Rattle.timetable.specs.Outcome.{OutcomeValue, final_of}
-use Rattle.timetable.specs.Right.{IsRight}
+use Rattle.right_run.specs.Cycles.{EndsRightly}
+use Rattle.right_run.proofs.PlainLaws.{IsRightOnPlain, right-on_plain}
 use Rattle.report_rows.specs.declared.MemoryWord.{MemoryWord}
 use Rattle.report_rows.specs.Bounds.{IsWord, IsItem, IsEnd, AreMemoryWords, IsCount}
 use Rattle.report_rows.specs.Ends.{EndValue, end_value}
@@ -111,14 +111,18 @@ thirteen : (cores : List EndValue) (items : List Item) → length (counts_of cor
 unfolding counts_of
 thirteen cores items = refl
 
-module _ (setup : Setup) (image : ImageValue) (outcome : OutcomeValue) (right : IsRight setup image outcome) where
+module _ (setup : Setup) (image : ImageValue) (outcome : OutcomeValue) (right : IsRightOnPlain setup image outcome) where
   cores_are : length outcome.cores ≡ setup.cores
-  cores_are = sym (length-map outcome.cores final_of) ∙ replay-cores image.code (start_memory image) setup.cores (entries outcome.items) (retired_of outcome.cores) _ right.replays
+  cores_are =
+      sym (length-map outcome.cores final_of)
+      ∙ replay-cores image.code (start_memory image) (start_states image setup.cores) (entries outcome.items) (retired_of outcome.cores) _ right.replays
+      ∙ length-start_states image setup.cores
 
-  interleaves : Interleaves image.code (start_memory image) setup.cores (entries outcome.items) (retired_of outcome.cores) (map final_of outcome.cores) outcome.words
+  interleaves : Interleaves image.code (start_memory image) (start_states image setup.cores) (entries outcome.items) (retired_of outcome.cores) (map final_of outcome.cores) outcome.words
   interleaves =
-      let counts : length (retired_of outcome.cores) ≡ setup.cores = length-map outcome.cores (λ (ended : CoreEnd). ended.retired) ∙ cores_are in
-      split image.code (start_memory image) setup.cores (entries outcome.items) (retired_of outcome.cores) _ counts right.replays
+      let counts : length (retired_of outcome.cores) ≡ length (start_states image setup.cores) =
+      length-map outcome.cores (λ (ended : CoreEnd). ended.retired) ∙ cores_are ∙ sym (length-start_states image setup.cores) in
+      split image.code (start_memory image) (start_states image setup.cores) (entries outcome.items) (retired_of outcome.cores) _ counts right.replays
 
   end_within : (core : ℕ) (ended : CoreEnd) → slice_get outcome.cores core ≡ Some ended → IsWithinBudget setup.budget ended
   end_within core ended here =
@@ -133,8 +137,8 @@ module _ (setup : Setup) (image : ImageValue) (outcome : OutcomeValue) (right : 
 
   items_are : IsGood image → setup.budget ≤ 100000 → All HasWords outcome.items → AllByRecursion (IsItem setup.cores (memory_bytes image)) outcome.items
   items_are good few words =
-      let asked = all_asked image.code (start_memory image) setup.cores (entries outcome.items) (retired_of outcome.cores) (map final_of outcome.cores) outcome.words setup.budget interleaves few_retired in
-      items_form setup.cores (memory_bytes image) setup.budget outcome.items few right.no_transaction interleaves.within
+      let asked = all_asked image.code (start_memory image) (start_states image setup.cores) (entries outcome.items) (retired_of outcome.cores) (map final_of outcome.cores) outcome.words setup.budget interleaves few_retired in
+      items_form setup.cores (memory_bytes image) setup.budget outcome.items few right.no_transaction (rw (length-start_states image setup.cores) at interleaves.within)
       (rw (bytes-start_memory image good) at asked) (recursion_from_All HasWords outcome.items words)
 
   ends_are : setup.budget ≤ 100000 → All (λ (ended : EndValue). IsState ended.state) (map end_value outcome.cores) → AllByRecursion (IsEnd setup.budget) (map end_value outcome.cores)
@@ -171,4 +175,4 @@ pub right_form : (report : ReportValue) → IsWithinLimits report.setup → repo
 right_form report limits plain right bits good read =
     let P : ReportValue → Type 0 = λ r. IsReport r in
     let Q : ReportValue → Type 0 = λ r. HasBits r in
-    subst P (sym right.is) (outcome_form report.setup report.image right.outcome right.right limits plain (subst Q right.is bits) good read)
+    subst P (sym right.is) (outcome_form report.setup report.image right.outcome (right-on_plain report.setup report.image right.outcome right.right) limits plain (subst Q right.is bits) good read)

@@ -6,6 +6,7 @@ use Rattle.std.proofs.lemmas.List.{length-set}
 use Rattle.std.proofs.lemmas.Option.{none-some, same_Some}
 use Rattle.mips_isa.specs.declared.Kind.{Kind}
 use Rattle.mips_isa.specs.declared.Kind.TheVariants.{Fetch, Lw, Sw, Cas}
+use Rattle.mips_isa.specs.declared.CoreState.{CoreState}
 use Rattle.mips_isa.specs.declared.Next.{Next}
 use Rattle.mips_isa.specs.declared.Next.TheVariants.{Stops, Asks, Goes}
 use Rattle.mips_isa.specs.Kinds.{width}
@@ -48,11 +49,11 @@ ended-cores place (n ∷ counts) machine new h =
     let end = map-some (with_core machine place) _ first.0 first.1 in
     ended-cores (place + 1) counts first.0 new first.2 ∙ ap (λ (m : FlatMachine). length m.cores) (sym end.2) ∙ length-set machine.cores place end.0
 
-pub replay-cores : (code memory : List ℕ) (cores : ℕ) (order : List Entry) (counts : List ℕ) (machine : FlatMachine) → replay code memory cores order counts ≡ Some machine → length machine.cores ≡ cores
+pub replay-cores : (code memory : List ℕ) (starts : List CoreState) (order : List Entry) (counts : List ℕ) (machine : FlatMachine) → replay code memory starts order counts ≡ Some machine → length machine.cores ≡ length starts
 unfolding replay started
-replay-cores code memory cores order counts machine h =
-    let mid = and_then_parts (ended 0 counts) (entered_all order (started code memory cores)) machine h in
-    ended-cores 0 counts mid.0 machine mid.2 ∙ entered_all-cores order (started code memory cores) mid.0 mid.1 ∙ length-start cores
+replay-cores code memory starts order counts machine h =
+    let mid = and_then_parts (ended 0 counts) (entered_all order (started code memory starts)) machine h in
+    ended-cores 0 counts mid.0 machine mid.2 ∙ entered_all-cores order (started code memory starts) mid.0 mid.1 ∙ length-start starts
 
 -- ---- the accesses
 
@@ -106,16 +107,17 @@ own_steps-ask code bytes most (entry ∷ order) core final h few =
     (omega (arith, caught.before, below), (record { nth = omega (arith, below, few); kind = asks.1; addr = asks.2 }, others.1))
 
 -- those of one core of an interleaving
-own_asked : (code memory : List ℕ) (cores : ℕ) (order : List Entry) (counts : List ℕ) (finals : List Core) (new_memory : List ℕ) (most : ℕ)
-    → Interleaves code memory cores order counts finals new_memory → ((core n : ℕ) → slice_get counts core ≡ Some n → n ≤ most)
-    → (core : ℕ) → core < cores → AllByRecursion (IsAsked (4 * length memory) most) (own order core)
-own_asked code memory cores order counts finals new_memory most is few core within =
+own_asked : (code memory : List ℕ) (starts : List CoreState) (order : List Entry) (counts : List ℕ) (finals : List Core) (new_memory : List ℕ) (most : ℕ)
+    → Interleaves code memory starts order counts finals new_memory → ((core n : ℕ) → slice_get counts core ≡ Some n → n ≤ most)
+    → (core : ℕ) → core < length starts → AllByRecursion (IsAsked (4 * length memory) most) (own order core)
+own_asked code memory starts order counts finals new_memory most is few core within =
     let count = slice_get_some counts core (rw is.counts_are within) in
     let final = slice_get_some finals core (rw is.finals_are within) in
-    let runs = is.alone core count.0 final.0 count.1 final.1 in
+    let start = slice_get_some starts core within in
+    let runs = is.alone core count.0 start.0 final.0 start.1 count.1 final.1 in
     let caught = CaughtUp-from code (4 * length memory) count.0 runs.mid final.0 runs.end in
     let executed : runs.mid.executed ≤ most = omega (arith, caught.before, few core count.0 count.1) in
-    (own_steps-ask code (4 * length memory) most (own order core) (starting cores core) runs.mid runs.own_entries executed).1
+    (own_steps-ask code (4 * length memory) most (own order core) (starting start.0) runs.mid runs.own_entries executed).1
 
 if_behind : {X : Type 0} (P : X → Type 0) (is_own : Bool) (x : X) (xs : List X) → AllByRecursion P (if is_own then x ∷ xs else xs) → AllByRecursion P xs
 if_behind P true x xs each = each.1
@@ -129,8 +131,8 @@ all_own P cores (entry ∷ order) within each =
     let here : AllByRecursion P (entry ∷ own order entry.core) = rw (own-at entry order entry.core refl) at (each entry.core within.0) in
     (here.0, all_own P cores order within.1 (λ core below. if_behind P (entry.core == core) entry (own order core) (each core below)))
 
-pub all_asked : (code memory : List ℕ) (cores : ℕ) (order : List Entry) (counts : List ℕ) (finals : List Core) (new_memory : List ℕ) (most : ℕ)
-    → Interleaves code memory cores order counts finals new_memory → ((core n : ℕ) → slice_get counts core ≡ Some n → n ≤ most)
+pub all_asked : (code memory : List ℕ) (starts : List CoreState) (order : List Entry) (counts : List ℕ) (finals : List Core) (new_memory : List ℕ) (most : ℕ)
+    → Interleaves code memory starts order counts finals new_memory → ((core n : ℕ) → slice_get counts core ≡ Some n → n ≤ most)
     → AllByRecursion (IsAsked (4 * length memory) most) order
-all_asked code memory cores order counts finals new_memory most is few =
-    all_own (IsAsked (4 * length memory) most) cores order is.within (own_asked code memory cores order counts finals new_memory most is few)
+all_asked code memory starts order counts finals new_memory most is few =
+    all_own (IsAsked (4 * length memory) most) (length starts) order is.within (own_asked code memory starts order counts finals new_memory most is few)

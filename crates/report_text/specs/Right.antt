@@ -1,7 +1,7 @@
 -- When a report is right.
 use Rattle.std.specs.Prelude.{◌≡◌}
 use Rattle.timetable.specs.Outcome.{OutcomeValue}
-use Rattle.timetable.specs.Right.{IsRight}
+use Rattle.right_run.specs.Right.{IsRight}
 use Rattle.report_text.specs.Report.{ReportValue, report_of}
 
 -- It is the report of a right outcome of what it says was asked for and loaded.
