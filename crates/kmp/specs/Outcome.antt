@@ -2,7 +2,6 @@
 use Rattle.std.specs.Prelude.{◌≡◌, ◌⊎◌, ℕ, ◌<◌, ◌≤◌, List, length, Option, Result, Ok, Err}
 use Rattle.image_file.specs.Value.{ImageValue, image_bytes}
 use Rattle.row_reader.specs.Rows.{rows_of}
-use Rattle.timetable.specs.Turns.{IsInTurns}
 use Rattle.report_text.specs.Report.{ReportValue}
 use Rattle.report_text.specs.Right.{IsRightReport}
 use Rattle.report_text.specs.Text.{report_text}
@@ -54,7 +53,7 @@ pub record FulfilsCheck {S K : Type 0} (left : S → Option (List ℕ)) (read_fa
 -- The input of an order was read without a fault, and what is due for it was written.
 abbrev pub Fulfils : {S K : Type 0} → (S → Option (List ℕ)) → (S → ℕ) → (K → Option (List ℕ)) → (K → ℕ) → Order → S → S → K → K → Status → Type 0
 Fulfils left read_faults held write_faults (orders.Run setup input) source source' sink sink' status =
-    FulfilsImage left read_faults held write_faults input (IsRunDue IsInTurns setup) source source' sink sink' status
+    FulfilsImage left read_faults held write_faults input (IsRunDue setup) source source' sink sink' status
 Fulfils left read_faults held write_faults (orders.Asm memory_lines) source source' sink sink' status =
     FulfilsImage left read_faults held write_faults (inputs.Source memory_lines) IsImageDue source source' sink sink' status
 Fulfils left read_faults held write_faults orders.Replay source source' sink sink' status =

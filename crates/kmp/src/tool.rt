@@ -6,7 +6,6 @@ ghost use Rattle.report_text.specs.Text.{report_text};
 ghost use Rattle.image_file.specs.Value.{image_bytes};
 ghost use Rattle.kmp_words.specs.Input.{ReadsAll};
 ghost use Rattle.kmp_words.specs.Words.{texts_of, words_meaning, IsRunnableSetup, IsProperInput, IsRunnable};
-ghost use Rattle.timetable.specs.Turns.{IsInTurns};
 ghost use Rattle.kmp_call.specs.Refused.{word_row, refusal_row, too_long_row, bad_row};
 ghost use Rattle.kmp_call.specs.Status.{code_of};
 ghost use Rattle.kmp_call.specs.Outcome.{IsRunDue, Answers, Finishes, RunsOut};
@@ -42,7 +41,7 @@ fn write<K: Sink>(image: &Image, sink: &mut K) -> Status
 // Runs an image in turns.
 fn run<K: Sink>(alloc: Global, setup: &Setup, image: Image, sink: &mut K) -> Status
     requires runnable { IsRunnableSetup setup.now }
-    ensures { Finishes K.held K.faults sink.old sink.new (IsRunDue IsInTurns setup.now (Ok image)) result ⊎ RunsOut sink.old sink.new result }
+    ensures { Finishes K.held K.faults sink.old sink.new (IsRunDue setup.now (Ok image)) result ⊎ RunsOut sink.old sink.new result }
 {
     match run_serial(alloc, &image, setup) {
         Ok(outcome) => write_run(alloc, setup, image, outcome, sink),

@@ -4,7 +4,6 @@ use Rattle.kmp_base.specs.Streams.{Rose, Writes}
 use Rattle.kmp_base.specs.declared.transfer.WriteFault.{WriteFault}
 use Rattle.kmp_base.specs.declared.setup.Setup.{Setup}
 use Rattle.image_file.specs.Value.{ImageValue}
-use Rattle.access_log.specs.declared.Entry.{Entry}
 use Rattle.report_text.specs.Report.{ReportValue}
 use Rattle.report_text.specs.Text.{report_text}
 use Rattle.report_text.specs.Form.{IsReport}
@@ -23,10 +22,10 @@ IsReportDue report text due = IsReport report × (text ≡ report_text report) �
 
 -- What is due for the run of an input with this meaning: the text of a right report and the status of its ends, or the
 -- row of the refusal.
-abbrev pub IsRunDue : (List Entry → Type 0) → Setup → Result ImageValue Refusal → List ℕ → Status → Type 0
-IsRunDue AreInOrder setup (Ok image) text due =
-    (report : ReportValue) × IsReportOf AreInOrder setup image report × (text ≡ report_text report) × (due ≡ status_of report)
-IsRunDue AreInOrder setup (Err refusal) text due = (text ≡ refusal_row refusal) × (due ≡ statuses.InputRefused)
+abbrev pub IsRunDue : Setup → Result ImageValue Refusal → List ℕ → Status → Type 0
+IsRunDue setup (Ok image) text due =
+    (report : ReportValue) × IsReportOf setup image report × (text ≡ report_text report) × (due ≡ status_of report)
+IsRunDue setup (Err refusal) text due = (text ≡ refusal_row refusal) × (due ≡ statuses.InputRefused)
 
 -- A text was written, and the status is the one that is due, or a write fault.
 pub record Answers {K : Type 0} (held : K → Option (List ℕ)) (faults : K → ℕ) (old new : K) (text : List ℕ) (due status : Status) : Type 0 where

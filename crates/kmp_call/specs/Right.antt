@@ -1,18 +1,18 @@
 -- When a report is the one of a run.
-use Rattle.std.specs.Prelude.{◌≡◌, List}
+use Rattle.std.specs.Prelude.{◌≡◌}
 use Rattle.kmp_base.specs.declared.setup.Setup.{Setup}
 use Rattle.image_file.specs.Value.{ImageValue}
-use Rattle.access_log.specs.declared.Entry.{Entry}
 use Rattle.access_log.specs.Items.{entries}
+use Rattle.right_run.specs.Turns.{IsInTurns}
 use Rattle.report_text.specs.Report.{ReportValue}
 use Rattle.report_text.specs.Form.{IsReport}
 use Rattle.report_text.specs.Right.{IsRightReport}
 
 -- It is right, with what was asked for and what was loaded, and its text can be read again.
-pub record IsReportOf (AreInOrder : List Entry → Type 0) (setup : Setup) (image : ImageValue) (report : ReportValue) : Type 0 where
+pub record IsReportOf (setup : Setup) (image : ImageValue) (report : ReportValue) : Type 0 where
   pub asked : report.setup ≡ setup
   pub loaded : report.image ≡ image
   pub right : IsRightReport report
   pub form : IsReport report
-  -- Its accesses stand in an order that the cores' turns allow.
-  pub turns : AreInOrder (entries report.items)
+  -- Its accesses stand in the order of the cores' turns.
+  pub turns : IsInTurns setup (entries report.items)

@@ -2,7 +2,7 @@
 ghost use Rattle.std.specs.Prelude.{◌≡◌, ◌⊎◌, ◌*◌, length, IfOk};
 ghost use Rattle.kmp_base.specs.Limits.{IsWithinLimits};
 ghost use Rattle.kmp_base.specs.declared.setup.MachineKind.TheVariants.{Plain};
-ghost use Rattle.timetable.specs.Right.{IsRight};
+ghost use Rattle.right_run.specs.Right.{IsRight};
 ghost use Rattle.report_text.specs.Form.{IsReport};
 ghost use Rattle.report_text.specs.Report.{report_of};
 ghost use Rattle.report_text.specs.Text.{report_text};
