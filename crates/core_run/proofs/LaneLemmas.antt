@@ -1,5 +1,5 @@
 -- How the calls of a cycle of a core and of its end follow one another, what they leave of its side, and how its engine goes on.
-use Rattle.std.proofs.Common.{◌≡◌, ◌≢◌, ℕ, ◌+◌, ◌-◌, ◌/◌, ◌≤◌, inl, inr, Bool, true, false, Option, Some, None, List, [], ◌∷◌, ◌++◌, append-nil, refl, ap, sym, ◌∙◌, arith, subst, IsTrue}
+use Rattle.std.proofs.Common.{◌≡◌, ◌≢◌, ℕ, ◌+◌, ◌/◌, ◌≤◌, inl, inr, Bool, true, false, Option, Some, None, List, [], ◌∷◌, ◌++◌, append-nil, refl, ap, sym, ◌∙◌, arith, subst, IsTrue}
 use Rattle.std.specs.Prelude.{◌||◌, is_some, option_map, slice_index}
 use Rattle.std.proofs.lemmas.Bool.{cases_Bool}
 use Rattle.std.proofs.lemmas.Option.{same_Some}
@@ -12,26 +12,24 @@ use Rattle.access_log.specs.Alone.{ComesTo}
 use Rattle.access_log.proofs.AloneLaws.{comes-goes, comes-does}
 use Rattle.mem_port.specs.declared.port.Port.{Port}
 use Rattle.mem_port.specs.declared.port.Port.TheVariants.{Fetch, Access}
-use Rattle.mem_port.specs.declared.port.Moved.{Moved}
-use Rattle.mem_port.specs.declared.port.Moved.TheVariants as moved
 use Rattle.mem_port.specs.declared.port.PortState.{PortState}
 use Rattle.mem_port.specs.declared.port.PortState.TheVariants.{Answered}
 use Rattle.mem_port.specs.declared.port.Withdrawal.{Withdrawal}
 use Rattle.mem_port.specs.declared.port.Withdrawal.TheVariants as withdrawal
 use Rattle.mem_port.specs.declared.engine.Progress.{Progress}
 use Rattle.mem_port.specs.declared.engine.Progress.TheVariants as progress
-use Rattle.mem_port.specs.Calls.{Call, Take}
+use Rattle.mem_port.specs.Calls.{Call}
 use Rattle.mem_port.specs.Engine.{EngineView, IsSound, FetchFits, ReplyFits, Rests, GoesOn, Finishes, Acts, KeepsEngine, Clocks, Drains}
 use Rattle.mem_port.specs.Loaded.{request, IsProperAccess, next_in, finish}
 use Rattle.mem_port.specs.Pace.{Pace, is_unmet, one_if, executed_by}
 use Rattle.mem_port.specs.Ports.{core_of, MayAsk, IsUnanswered, entries_of}
-use Rattle.mem_port.specs.Side.{Mark, Served, mark, Holds, Evolves, SideView, KeepsSide, LeavesPort, SideStays, SideSteps, SideTakes, SideWithdraws}
+use Rattle.mem_port.specs.Side.{Mark, Served, mark, Holds, Evolves, SideView, KeepsSide, LeavesPort, SideTakes, SideWithdraws}
 use Rattle.mem_port.proofs.LoadedLaws.{request-asks, request-proper, request-no_stop, next-goes}
 use Rattle.mem_port.proofs.SideLaws.{mark-evolves, evolves-twice}
 use Rattle.core_run.specs.declared.lane.Lane.{Lane}
 use Rattle.core_run.specs.declared.lane.Came.{Came}
-use Rattle.core_run.specs.Cycle.{opens, sends, takes, steps, cycle_calls, lane_after, moved_in, wait_left, late_reply, found_by, UsesAsks, WaitsLess, WasOn, IsDrained}
-use Rattle.core_run.specs.Lanes.{RunsAlone, IsCoupled, SideSends, PortHolds, StopsWhereDead, IsQuiet}
+use Rattle.core_run.specs.Cycle.{opens, sends, takes, steps, cycle_calls, moved_in, wait_left, late_reply, found_by, WasOn, IsDrained}
+use Rattle.core_run.specs.Lanes.{RunsAlone, IsCoupled, PortHolds, StopsWhereDead, IsQuiet}
 use Rattle.core_run.specs.Meets.{Makes, Opens, TakesUp, Fits, StepsOn, Meets, Closes, entries_by}
 use Rattle.core_run.proofs.LeadLaws.{lead-append}
 

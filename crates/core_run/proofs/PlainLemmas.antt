@@ -1,5 +1,5 @@
 -- An engine without a pipeline: what its clocks do, and its times.
-use Rattle.std.proofs.Common.{◌≡◌, ℕ, ◌+◌, ◌≤◌, List, [], ◌∷◌, ◌++◌, length, refl, ap, sym, ◌∙◌, arith}
+use Rattle.std.proofs.Common.{◌≡◌, ℕ, ◌+◌, List, [], ◌∷◌, ◌++◌, length, refl, ap, sym, ◌∙◌, arith}
 use Rattle.std.specs.Prelude.{Some, IsSome, map}
 use Rattle.std.proofs.lemmas.List.{map-append, length-map, length-append}
 use Rattle.mips_isa.specs.declared.CoreState.{CoreState}

@@ -9,14 +9,14 @@ use Rattle.mem_port.specs.declared.port.Port.TheVariants.{Fetch, Access}
 use Rattle.mem_port.specs.declared.port.PortState.{PortState}
 use Rattle.mem_port.specs.declared.port.PortState.TheVariants.{Free, Asked, Waiting, Answered, Closed}
 use Rattle.mem_port.specs.Ports.{core_of, IsWaiting}
-use Rattle.mem_port.specs.Memory.{MemoryView, IsFresh, IsAtOnce}
+use Rattle.mem_port.specs.Memory.{MemoryView, IsFresh}
 use Rattle.mem_port.specs.Engine.{EngineView}
 use Rattle.mem_port.specs.Pace.{Pace, IsFirstPace, IsLeft, no_service}
 use Rattle.mem_port.specs.Side.{SideView, Evolves, Unasked, mark, LeavesOthers, patience_of, side_of}
 use Rattle.mem_port.proofs.SideLaws.{mark-evolves}
 use Rattle.core_run.specs.declared.lane.Lane.{Lane}
 use Rattle.core_run.specs.Cycle.{wait_left}
-use Rattle.core_run.specs.Lanes.{RunsAlone, IsCoupled, IsFinished, IsStarted, IsClosed, IsNoTighter, bound_of}
+use Rattle.core_run.specs.Lanes.{RunsAlone, IsCoupled, IsFinished, IsStarted, IsClosed, IsNoTighter}
 use Rattle.core_run.specs.Serial.{IsOn, SeatHolds, SeatAt, IsStartSeat, IsServedAt}
 use Rattle.core_run.proofs.TurnLemmas.{once-along}
 

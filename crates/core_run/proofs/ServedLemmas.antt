@@ -1,10 +1,10 @@
 -- The seat of a core behind its cycle and behind its end, and how its engine was served.
-use Rattle.std.proofs.Common.{◌≡◌, ℕ, ◌+◌, ◌≤◌, Bool, true, false, Some, None, ◌++◌, length, refl, ap, sym, ◌∙◌, subst, arith}
+use Rattle.std.proofs.Common.{◌≡◌, ℕ, ◌+◌, ◌≤◌, Bool, true, false, Some, None, ◌++◌, refl, ap, sym, ◌∙◌, subst, arith}
 use Rattle.std.specs.Prelude.{Option, ◌&&◌, not, map}
 use Rattle.std.proofs.lemmas.List.{map-append}
 use Rattle.access_log.specs.Stamps.{Stamp, stamped}
 use Rattle.timetable.specs.declared.End.{End}
-use Rattle.mem_port.specs.declared.port.Port.TheVariants.{Fetch, Access}
+use Rattle.mem_port.specs.declared.port.Port.TheVariants.{Access}
 use Rattle.mem_port.specs.declared.port.Withdrawal.{Withdrawal}
 use Rattle.mem_port.specs.declared.engine.Progress.{Progress}
 use Rattle.mem_port.specs.Calls.{Call}
@@ -15,7 +15,7 @@ use Rattle.mem_port.specs.Side.{SideView, KeepsSide, LeavesOthers, side_of, mark
 use Rattle.core_run.specs.declared.lane.Lane.{Lane}
 use Rattle.core_run.specs.declared.lane.Came.{Came}
 use Rattle.core_run.specs.Cycle.{IsCycle, IsEnding, late_reply}
-use Rattle.core_run.specs.Lanes.{RunsAlone, IsCoupled, IsFinished, IsClosed, IsQuiet, Progressed, IsNoTighter, pace_after}
+use Rattle.core_run.specs.Lanes.{RunsAlone, IsCoupled, IsFinished, IsQuiet, Progressed, IsNoTighter, pace_after}
 use Rattle.core_run.specs.Serial.{IsOn, IsOver, IsServedAt, Receives, goes_on, end_after}
 use Rattle.core_run.proofs.CycleLaws.{cycle-paces, cycle-no_tighter, cycle-core, ending-core, closed-after}
 use Rattle.core_run.proofs.EndLaws.{live-after, end-fits, stopped-closed, stays-closed, dead-stops, last_pace, last-clocks, last-bound, last-accesses, last-tells, last-live, last-same}

@@ -1,5 +1,5 @@
 -- One core's engine and its side of a memory.
-use Rattle.std.specs.Prelude.{◌≡◌, ℕ, ◌+◌, Bool, true, false, IsTrue, Option, Some, None, option_map, if◌then◌else◌, List, [], ◌∷◌, ◌++◌, ◌≤◌}
+use Rattle.std.specs.Prelude.{◌≡◌, ℕ, ◌+◌, Bool, true, false, IsTrue, Option, Some, None, option_map, if◌then◌else◌, List, ◌≤◌}
 use Rattle.mips_isa.specs.declared.Stop.{Stop}
 use Rattle.mips_isa.specs.Steps.{start}
 use Rattle.image_file.specs.Value.{ImageValue, memory_bytes}

@@ -1,4 +1,4 @@
-use Rattle.std.proofs.Common.{sym, ap, ◌∙◌, refl, arith, rules}
+use Rattle.std.proofs.Common.{refl, arith, rules}
 use Rattle.std.proofs.lemmas.Grind.{common_steps}
 use Rattle.core_run.specs.declared.plain.Phase.TheVariants.{FoundDone}
 use Rattle.core_run.proofs.PlainLemmas.{waits_for, answered}
