@@ -2,7 +2,6 @@
 use Rattle.std.proofs.Common.{◌≡◌, ℕ, ◌+◌, ◌≤◌, Bool, true, false, Option, Some, None, refl, sym, ◌∙◌, subst, IsTrue, arith}
 use Rattle.std.specs.Prelude.{if◌then◌else◌}
 use Rattle.mem_port.specs.declared.engine.Progress.{Progress}
-use Rattle.mem_port.specs.declared.port.Port.TheVariants.{Fetch, Access}
 use Rattle.mem_port.specs.declared.port.Withdrawal.{Withdrawal}
 use Rattle.mem_port.specs.Calls.{Call}
 use Rattle.mem_port.specs.Engine.{EngineView}

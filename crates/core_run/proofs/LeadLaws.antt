@@ -1,5 +1,5 @@
 -- Calls that lead from one state to another.
-use Rattle.std.proofs.Common.{◌≡◌, List, [], ◌∷◌, ◌++◌, ap, subst}
+use Rattle.std.proofs.Common.{List, [], ◌∷◌, ◌++◌, ap, subst}
 use Rattle.mem_port.specs.Calls.{Call, Lead}
 
 -- Calls behind others lead on from where these have led.

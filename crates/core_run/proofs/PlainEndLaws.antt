@@ -1,5 +1,5 @@
 -- What the end of an unpipelined core tells, where none of its wants stayed unmet.
-use Rattle.std.proofs.Common.{◌≡◌, ℕ, ◌+◌, ◌<◌, ◌≤◌, Bool, true, false, Some, None, List, length, refl, ap, sym, ◌∙◌, arith}
+use Rattle.std.proofs.Common.{◌≡◌, ℕ, ◌+◌, ◌≤◌, Bool, true, false, Some, List, length, refl, ap, sym, ◌∙◌, arith}
 use Rattle.std.specs.Prelude.{◌&&◌, not, map}
 use Rattle.std.proofs.lemmas.Option.{same_Some}
 use Rattle.mips_isa.specs.declared.CoreState.{CoreState}
@@ -16,7 +16,6 @@ use Rattle.timetable.specs.declared.End.TheVariants as ends
 use Rattle.timetable.specs.declared.CoreEnd.{CoreEnd}
 use Rattle.right_run.specs.Cycles.{plain_cycles, EndsRightly}
 use Rattle.mem_port.specs.Loaded.{next_in, stop_in, stop, request}
-use Rattle.mem_port.specs.Engine.{EngineView}
 use Rattle.mem_port.specs.Pace.{Pace}
 use Rattle.mem_port.proofs.LoadedLaws.{request-asks}
 use Rattle.core_run.specs.PlainView.{is_live, is_drained, under_way, left_out, wanted_access, in_own_cycles, plain_view, IsPlainPace}

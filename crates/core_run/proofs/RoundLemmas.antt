@@ -4,7 +4,7 @@ use Rattle.std.specs.Prelude.{nat_lt, if◌then◌else◌, ◌==◌, Option, sli
 use Rattle.std.proofs.lemmas.Bool.{cases_eq, cases_lt, lt-ltb, le-ltb, eq-eqb, ne_eqb}
 use Rattle.std.proofs.lemmas.Option.{same_Some, slice_get_within}
 use Rattle.access_log.specs.declared.Item.{Item}
-use Rattle.access_log.specs.Stamps.{Stamp, stamped, own_stamps}
+use Rattle.access_log.specs.Stamps.{stamped, own_stamps}
 use Rattle.access_log.proofs.MergeLaws.{slice_get-set, slice_get-set_other}
 use Rattle.timetable.specs.declared.End.{End}
 use Rattle.mem_port.specs.Memory.{MemoryView, IsFresh, IsAtOnce}

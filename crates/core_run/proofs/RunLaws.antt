@@ -1,5 +1,5 @@
 -- What a run of unpipelined cores says of their cycles and their turns, where each answer came as its request was served.
-use Rattle.std.proofs.Common.{◌≡◌, ◌≢◌, ℕ, zero, suc, ◌+◌, ◌<◌, ◌≤◌, ◌⊎◌, inl, inr, Bool, true, false, List, [], ◌∷◌, ◌++◌, length, refl, ap, sym, ◌∙◌, arith, subst}
+use Rattle.std.proofs.Common.{◌≡◌, ℕ, zero, suc, ◌+◌, ◌<◌, ◌≤◌, ◌⊎◌, inl, inr, Bool, true, false, List, [], ◌∷◌, ◌++◌, length, refl, ap, sym, ◌∙◌, arith, subst}
 use Rattle.std.specs.Prelude.{Some, None, map, slice_get, ◌==◌}
 use Rattle.std.specs.List.{AllByRecursion}
 use Rattle.std.proofs.lemmas.Bool.{cases_lt, eq-eqb, ne_eqb}
@@ -18,7 +18,6 @@ use Rattle.access_log.specs.Stamps.{Stamp, own_stamps, IsRising}
 use Rattle.access_log.proofs.MergeLaws.{slice_get_some}
 use Rattle.access_log.proofs.StampLaws.{own-stamps}
 use Rattle.timetable.specs.declared.CoreEnd.{CoreEnd}
-use Rattle.timetable.specs.declared.rows.TimeRow.{TimeRow}
 use Rattle.timetable.specs.Outcome.{OutcomeValue}
 use Rattle.right_run.specs.Right.{IsRight}
 use Rattle.right_run.specs.Turns.{in_cycles, IsInRounds, IsInTurns}

@@ -1,5 +1,5 @@
 -- The ends of cores that took turns: what their seats tell, and how their engines were served.
-use Rattle.std.proofs.Common.{◌≡◌, ℕ, zero, suc, ◌<◌, Some, None, List, [], ◌∷◌, ◌++◌, length, refl, ap, sym, ◌∙◌, subst, arith}
+use Rattle.std.proofs.Common.{◌≡◌, ℕ, zero, suc, Some, None, List, [], ◌∷◌, ◌++◌, length, refl, ap, sym, ◌∙◌, subst, arith}
 use Rattle.std.specs.Prelude.{Option, slice_get, map, ◌&&◌, not}
 use Rattle.std.proofs.lemmas.Option.{same_Some}
 use Rattle.access_log.specs.declared.Item.{Item}
@@ -9,7 +9,7 @@ use Rattle.access_log.proofs.MergeLaws.{slice_get_some}
 use Rattle.timetable.specs.declared.CoreEnd.{CoreEnd}
 use Rattle.timetable.specs.declared.End.{End}
 use Rattle.timetable.specs.declared.rows.TimeRow.{TimeRow}
-use Rattle.mem_port.specs.Memory.{MemoryView, IsAtOnce, Keeps, committed}
+use Rattle.mem_port.specs.Memory.{MemoryView, Keeps, committed}
 use Rattle.mem_port.specs.Engine.{EngineView}
 use Rattle.mem_port.specs.Pace.{Pace}
 use Rattle.mem_port.specs.Side.{side_of}

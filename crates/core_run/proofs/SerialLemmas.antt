@@ -9,7 +9,7 @@ use Rattle.mem_port.specs.declared.port.Port.TheVariants.{Fetch, Access}
 use Rattle.mem_port.specs.declared.port.PortState.{PortState}
 use Rattle.mem_port.specs.declared.port.PortState.TheVariants.{Free, Asked, Waiting, Answered, Closed}
 use Rattle.mem_port.specs.Ports.{core_of, IsWaiting}
-use Rattle.mem_port.specs.Memory.{MemoryView, IsFresh, IsAtOnce}
+use Rattle.mem_port.specs.Memory.{MemoryView, IsFresh}
 use Rattle.mem_port.specs.Engine.{EngineView}
 use Rattle.mem_port.specs.Pace.{Pace, IsFirstPace, IsLeft, no_service}
 use Rattle.mem_port.specs.Side.{SideView, Evolves, Unasked, mark, LeavesOthers, patience_of, side_of}

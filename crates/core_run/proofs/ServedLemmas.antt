@@ -1,10 +1,10 @@
 -- The seat of a core behind its cycle and behind its end, and how its engine was served.
-use Rattle.std.proofs.Common.{◌≡◌, ℕ, ◌+◌, ◌≤◌, Bool, true, false, Some, None, ◌++◌, length, refl, ap, sym, ◌∙◌, subst, arith}
+use Rattle.std.proofs.Common.{◌≡◌, ℕ, ◌+◌, ◌≤◌, Bool, true, false, Some, None, ◌++◌, refl, ap, sym, ◌∙◌, subst, arith}
 use Rattle.std.specs.Prelude.{Option, ◌&&◌, not, map}
 use Rattle.std.proofs.lemmas.List.{map-append}
 use Rattle.access_log.specs.Stamps.{Stamp, stamped}
 use Rattle.timetable.specs.declared.End.{End}
-use Rattle.mem_port.specs.declared.port.Port.TheVariants.{Fetch, Access}
+use Rattle.mem_port.specs.declared.port.Port.TheVariants.{Access}
 use Rattle.mem_port.specs.declared.port.Withdrawal.{Withdrawal}
 use Rattle.mem_port.specs.declared.engine.Progress.{Progress}
 use Rattle.mem_port.specs.Calls.{Call}

@@ -1,11 +1,9 @@
 -- What the turn of a core makes of its seat, of its calls and of the history.
-use Rattle.std.proofs.Common.{◌≡◌, ◌≢◌, ℕ, ◌+◌, ◌<◌, ◌≤◌, inl, inr, Bool, true, false, IsTrue, Some, None, List, [], ◌∷◌, ◌++◌, length, append-nil, refl, ap, sym, ◌∙◌, subst, arith}
-use Rattle.std.specs.Prelude.{Option, is_some, option_map, ◌==◌, ◌&&◌, not, if◌then◌else◌, map}
+use Rattle.std.proofs.Common.{◌≡◌, ◌≢◌, ℕ, ◌+◌, ◌≤◌, inl, inr, Bool, true, false, Some, None, List, [], ◌∷◌, ◌++◌, length, append-nil, refl, ap, sym, ◌∙◌, subst, arith}
+use Rattle.std.specs.Prelude.{Option, is_some, option_map, ◌==◌, if◌then◌else◌, map}
 use Rattle.std.specs.List.{AllByRecursion}
-use Rattle.std.proofs.lemmas.Bool.{eqb-true, eq-eqb}
+use Rattle.std.proofs.lemmas.Bool.{eq-eqb}
 use Rattle.std.proofs.lemmas.List.{append_cancel_left, map-append}
-use Rattle.std.proofs.lemmas.Option.{same_Some}
-use Rattle.mips_isa.specs.declared.Stop.{Stop}
 use Rattle.access_log.specs.declared.Entry.{Entry}
 use Rattle.access_log.specs.declared.Item.{Item}
 use Rattle.access_log.specs.declared.request.Request.{Request}
@@ -14,7 +12,7 @@ use Rattle.access_log.specs.Requests.{entry_of, fetch_of}
 use Rattle.access_log.specs.Stamps.{Stamp, stamped}
 use Rattle.access_log.proofs.ItemLaws.{entries-append, own_items-append}
 use Rattle.timetable.specs.declared.End.{End}
-use Rattle.timetable.specs.declared.End.TheVariants.{Stopped, Spent}
+use Rattle.timetable.specs.declared.End.TheVariants.{Spent}
 use Rattle.mem_port.specs.declared.port.Port.{Port}
 use Rattle.mem_port.specs.declared.port.Port.TheVariants.{Fetch, Access}
 use Rattle.mem_port.specs.declared.port.PortState.{PortState}
@@ -23,14 +21,12 @@ use Rattle.mem_port.specs.declared.port.Withdrawal.{Withdrawal}
 use Rattle.mem_port.specs.declared.port.Moved.{Moved}
 use Rattle.mem_port.specs.declared.engine.Progress.{Progress}
 use Rattle.mem_port.specs.declared.engine.Progress.TheVariants as progress
-use Rattle.mem_port.specs.Calls.{Call, Lead}
-use Rattle.mem_port.specs.Loaded.{stop}
+use Rattle.mem_port.specs.Calls.{Call}
 use Rattle.mem_port.specs.Ports.{IsWaiting, HoldsEntry, taken_of}
 use Rattle.mem_port.specs.Memory.{MemoryView, IsLawful, IsAtOnce, committed}
 use Rattle.mem_port.specs.Engine.{EngineView}
 use Rattle.mem_port.specs.Pace.{Pace, executed_by, one_if}
-use Rattle.mem_port.specs.Side.{SideView, Mark, KeepsSide, LeavesOthers, Evolves, Unasked, mark, side_of}
-use Rattle.mem_port.proofs.LoadedLaws.{request-no_stop}
+use Rattle.mem_port.specs.Side.{SideView, Mark, LeavesOthers, Evolves, mark}
 use Rattle.core_run.specs.declared.lane.Lane.{Lane}
 use Rattle.core_run.specs.declared.lane.Came.{Came}
 use Rattle.core_run.specs.Cycle.{IsCycle, IsEnding, IsDrained, UsesAsks, WaitsLess, cycle_calls, opens, sends, takes, steps, withdraws, wait_left}
