@@ -110,7 +110,7 @@ fn image(alloc: Global, row: &[u8], size: u32, front: Vec<u8>) -> Result<Option<
 }
 
 /// The image, with its last row.
-pub(crate) fn image_row<'a>(
+pub(crate) fn last_image_row<'a>(
     alloc: Global,
     text: &'a [u8],
     size: u32,

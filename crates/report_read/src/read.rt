@@ -8,7 +8,7 @@ ghost use Rattle.report_text.specs.Form.{IsReport};
 ghost use Rattle.report_read.specs.BadRow.{IsReadAs, IfBadRow, IsBadRow};
 ghost use Rattle.report_read.specs.Reading.{report_at, read_of};
 
-use crate::image::{image_row, read_opening};
+use crate::image::{last_image_row, read_opening};
 use crate::outcome::outcome;
 use report_text::Report;
 use row_reader::{Stuck, row_count};
@@ -22,7 +22,7 @@ fn report(alloc: Global, text: &[u8]) -> Result<(Report, &[u8]), Stuck<'_>>
     ensures { Gives (λ x. (x.0, rows_of x.1.now)) result (report_at (rows_of text.now)) }
 {
     let (opening, rest) = read_opening(alloc, text)?;
-    let (image, rest) = image_row(alloc, rest, opening.size, opening.front)?;
+    let (image, rest) = last_image_row(alloc, rest, opening.size, opening.front)?;
     outcome(alloc, rest, opening.setup, image)
 }
 

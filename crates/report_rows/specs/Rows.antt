@@ -18,8 +18,8 @@ number_or_dash None = codes "-"
 number_or_dash (Some n) = decimal n
 
 -- a name and a word
-abbrev pub word_row : List ℕ → List ℕ → List (List ℕ)
-word_row name word = name ∷ word ∷ []
+abbrev pub text_row : List ℕ → List ℕ → List (List ℕ)
+text_row name word = name ∷ word ∷ []
 
 -- a name and a number
 abbrev pub number_row : List ℕ → ℕ → List (List ℕ)
@@ -30,8 +30,8 @@ abbrev pub bytes_row : List ℕ → List (List ℕ)
 bytes_row bytes = codes "I" ∷ encode_lower bytes ∷ []
 
 -- the 32 bytes of the image from place 32 k on, or as many as there are
-abbrev pub image_row : List ℕ → ℕ → List (List ℕ)
-image_row bytes k = bytes_row (take 32 (drop (32 * k) bytes))
+abbrev pub bytes_row_at : List ℕ → ℕ → List (List ℕ)
+bytes_row_at bytes k = bytes_row (take 32 (drop (32 * k) bytes))
 
 -- an access
 abbrev pub entry_row : Entry → List (List ℕ)
@@ -72,12 +72,12 @@ count_row name n = codes "N" ∷ name ∷ decimal n ∷ []
 -- what was asked for
 unfoldable pub header_rows : Setup → List (List (List ℕ))
 header_rows setup =
-    word_row (codes "kmp-report") (codes "1")
-    ∷ word_row (codes "machine") (machine_name setup.machine)
+    text_row (codes "kmp-report") (codes "1")
+    ∷ text_row (codes "machine") (machine_name setup.machine)
     ∷ number_row (codes "cores") setup.cores
     ∷ number_row (codes "budget") setup.budget
-    ∷ word_row (codes "arbitration") (policy_name setup.policy)
-    ∷ word_row (codes "turns") (turns_name setup.turns)
+    ∷ text_row (codes "arbitration") (policy_name setup.policy)
+    ∷ text_row (codes "turns") (turns_name setup.turns)
     ∷ number_row (codes "seed") setup.seed
     ∷ number_row (codes "sets") setup.sets
     ∷ number_row (codes "ways") setup.ways

@@ -1,4 +1,8 @@
 //! The rows of a report: each as text, and each read from its text.
+//!
+//! The laws that other crates cite:
+//! - `proofs/RowLaws`: what is read of a row is what the row spells.
+//! - `proofs/PlainRowLaws`: the rows are plain, so they can be told from a report's text.
 #![tactic(auto)]
 
 mod fields;

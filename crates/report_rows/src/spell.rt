@@ -6,7 +6,7 @@ ghost use Rattle.kmp_base.specs.Text.{hex8, hex4};
 ghost use Rattle.kmp_base.specs.Rows.{row_text};
 ghost use Rattle.row_reader.specs.Numbers.{word_or_dash};
 ghost use Rattle.report_rows.specs.Ends.{end_value};
-ghost use Rattle.report_rows.specs.Rows.{number_or_dash, word_row, number_row, count_row, bytes_row, entry_row, transaction_row, item_row, core_row, registers_row, memory_row, header_rows, core_rows, access_count_rows, bus_count_rows, wait_count_rows};
+ghost use Rattle.report_rows.specs.Rows.{number_or_dash, text_row, number_row, count_row, bytes_row, entry_row, transaction_row, item_row, core_row, registers_row, memory_row, header_rows, core_rows, access_count_rows, bus_count_rows, wait_count_rows};
 
 use crate::{Counts, MemoryWord, names};
 use access_log::{Entry, Item, Transaction};
@@ -109,7 +109,7 @@ fn add_next(row: &mut Row, numbers: &mut Spelling)
 /// A name and a word.
 fn word(name: &str, word: &str) -> Row
     requires { length name.now + length word.now ≤ 120 }
-    ensures row { result ≡ row_text (word_row name.now word.now) }
+    ensures row { result ≡ row_text (text_row name.now word.now) }
 {
     let mut row = Row::new();
     row.text(name);

@@ -24,7 +24,7 @@ use Rattle.report_rows.specs.declared.MemoryWord.{MemoryWord}
 use Rattle.report_rows.specs.Ends.{EndValue}
 use Rattle.report_rows.specs.Names.{machine_name, policy_name, turns_name, kind_name, end_name}
 use Rattle.report_rows.specs.Bounds.{IsHeader, IsEntry, IsItem, IsEnd, IsCount}
-use Rattle.report_rows.specs.Rows.{word_row, number_row, bytes_row, entry_row, item_row, core_row, registers_row, memory_row, count_row, header_rows, core_rows, access_count_rows, bus_count_rows, wait_count_rows}
+use Rattle.report_rows.specs.Rows.{text_row, number_row, bytes_row, entry_row, item_row, core_row, registers_row, memory_row, count_row, header_rows, core_rows, access_count_rows, bus_count_rows, wait_count_rows}
 
 -- ---- names
 
@@ -60,8 +60,8 @@ end_passes ends.Spent = refl
 
 -- ---- single rows
 
-word_row_plain : (name word : List ℕ) → passes name ≡ true → passes word ≡ true → IsPlainRow (word_row name word)
-word_row_plain name word n w = (plain_by_test name n, (plain_by_test word w, tt))
+text_row_plain : (name word : List ℕ) → passes name ≡ true → passes word ≡ true → IsPlainRow (text_row name word)
+text_row_plain name word n w = (plain_by_test name n, (plain_by_test word w, tt))
 
 pub number_row_plain : (name : List ℕ) (n : ℕ) → IsPlain name → n < 2 ^ 64 → IsPlainRow (number_row name n)
 number_row_plain name n is small = (is, (decimal_plain n small, tt))
@@ -93,17 +93,17 @@ memory_plain word = (plain_by_test (codes "W") refl, (hex8_plain word.addr, (hex
 pub header_plain : (setup : Setup) → IsHeader setup → AllByRecursion IsPlainRow (header_rows setup)
 unfolding header_rows
 header_plain setup is = (
-  word_row_plain (codes "kmp-report") (codes "1") refl refl,
+  text_row_plain (codes "kmp-report") (codes "1") refl refl,
   (
-    word_row_plain (codes "machine") (machine_name setup.machine) refl (machine_passes setup.machine),
+    text_row_plain (codes "machine") (machine_name setup.machine) refl (machine_passes setup.machine),
     (
       number_row_plain (codes "cores") setup.cores (plain_by_test (codes "cores") refl) (omega (arith, is.limits.cores)),
       (
         number_row_plain (codes "budget") setup.budget (plain_by_test (codes "budget") refl) (omega (arith, is.limits.budget)),
         (
-          word_row_plain (codes "arbitration") (policy_name setup.policy) refl (policy_passes setup.policy),
+          text_row_plain (codes "arbitration") (policy_name setup.policy) refl (policy_passes setup.policy),
           (
-            word_row_plain (codes "turns") (turns_name setup.turns) refl (turns_passes setup.turns),
+            text_row_plain (codes "turns") (turns_name setup.turns) refl (turns_passes setup.turns),
             (
               number_row_plain (codes "seed") setup.seed (plain_by_test (codes "seed") refl) (omega (arith, is.seed)),
               (
