@@ -21,12 +21,9 @@ use image_file::{Image, write_image};
 use kmp_base::{InputFault, Row, Setup, Sink, Source, WriteFault, put, read_input};
 use kmp_words::{Input, LoadFault, Order, WordFault, load, read_words};
 use replayer::{Verdict, check};
-use report_read::{ReportFault, read_report};
+use report_read::{REPORT_LIMIT, ReportFault, read_report};
 use report_text::{NoMemory, Report, build_report, print_report, right_report_is_read};
 use std::alloc::Global;
-
-/// The most bytes of a report that is checked.
-const REPORT_LIMIT: usize = 268_435_456;
 
 // Writes a row, behind which a status is due.
 fn write_row<K: Sink>(row: &Row, due: Status, sink: &mut K) -> Status

@@ -11,7 +11,8 @@ use Rattle.kmp_base.specs.declared.setup.Turns.{Turns}
 use Rattle.kmp_base.specs.declared.setup.Turns.TheVariants as turns
 use Rattle.row_reader.specs.Rows.{Rows}
 use Rattle.row_reader.specs.Starts.{IsPart}
-use Rattle.row_reader.specs.Reading.{◌>>=◌, row_at}
+use Rattle.kmp_base.specs.Bind.{◌>>=◌}
+use Rattle.row_reader.specs.Reading.{row_at}
 use Rattle.row_reader.proofs.PartLaws.{one_line, row_part, then_part}
 use Rattle.row_reader.proofs.PlainLaws.{all_append}
 use Rattle.row_reader.proofs.ManyLaws.{part_as, last_part, map_part, then_known, last_known}

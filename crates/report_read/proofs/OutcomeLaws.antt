@@ -17,11 +17,12 @@ use Rattle.report_rows.specs.declared.MemoryWord.{MemoryWord}
 use Rattle.report_rows.specs.Ends.{EndValue}
 use Rattle.report_rows.specs.Bounds.{IsHeader, IsEntry, IsItem, IsEnd, IsMemoryWord, AreMemoryWords, IsCount}
 use Rattle.report_rows.specs.Rows.{entry_row, item_row, core_rows, core_row, registers_row, memory_row, count_row, access_count_rows, bus_count_rows, wait_count_rows}
+use Rattle.report_rows.specs.Names.{count_names}
 use Rattle.report_rows.specs.Reading.{entry_row_of, memory_row_of, count_row_of}
 use Rattle.report_rows.proofs.RowLaws.{fixed_law, entry_law, memory_law, count_law}
 use Rattle.report_text.specs.Report.{ReportValue}
 use Rattle.report_text.specs.Text.{rows_of_cores, count_rows}
-use Rattle.report_read.specs.Reading.{after_word, count_names, counts_at, outcome_at}
+use Rattle.report_read.specs.Reading.{after_word, counts_at, outcome_at}
 use Rattle.report_read.proofs.ListLaws.{all_each, each_all}
 use Rattle.report_read.proofs.CoreLaws.{AreEnds, ends_part}
 

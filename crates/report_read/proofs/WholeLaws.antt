@@ -5,7 +5,8 @@ use Rattle.std.proofs.lemmas.List.{append-nil}
 use Rattle.image_file.specs.Value.{ImageValue, image_bytes, memory_bytes}
 use Rattle.image_file.specs.Reading.{image_meaning}
 use Rattle.row_reader.specs.Rows.{Row, Rows, rows_of}
-use Rattle.row_reader.specs.Reading.{◌>>=◌, chosen, row_at}
+use Rattle.kmp_base.specs.Bind.{◌>>=◌}
+use Rattle.row_reader.specs.Reading.{chosen, row_at}
 use Rattle.row_reader.specs.Starts.{Stops}
 use Rattle.row_reader.proofs.PartLaws.{row_takes, ok_is, err_is, bind_ok, bind_err, chosen_err, none_some, head_is, tail_is}
 use Rattle.row_reader.proofs.FieldLaws.{some_is}

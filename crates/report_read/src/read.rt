@@ -40,6 +40,9 @@ fn read(alloc: Global, text: &[u8]) -> Result<Report, Stuck<'_>>
     }
 }
 
+/// The most bytes of a report that is read.
+pub const REPORT_LIMIT: usize = 268_435_456;
+
 /// Why a text wasn't read.
 #[derive(Clone, Copy, Debug, Error)]
 pub enum ReportFault {
@@ -51,7 +54,7 @@ pub enum ReportFault {
     BadRow(u32),
 }
 
-/// The report whose text this is, of at most 268,435,456 bytes.
+/// The report whose text this is, of at most [`REPORT_LIMIT`] bytes.
 ///
 /// Its time is linear in the bytes.
 pub fn read_report(alloc: Global, bytes: &[u8]) -> Result<Report, ReportFault>

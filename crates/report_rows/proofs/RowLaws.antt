@@ -16,7 +16,7 @@ use Rattle.row_reader.proofs.FieldLaws.{IsField, then_field, last_field, row_as}
 use Rattle.row_reader.proofs.NumberLaws.{number_field, word_field, optional_field, exactly_field, bytes_field}
 use Rattle.report_rows.specs.declared.MemoryWord.{MemoryWord}
 use Rattle.report_rows.specs.declared.read.EndRow.{EndRow}
-use Rattle.report_rows.specs.Names.{policy_name, turns_name}
+use Rattle.kmp_base.specs.Names.{policy_name, turns_name}
 use Rattle.report_rows.specs.Bounds.{IsWord, IsByte, IsTime, IsPlace, IsEntry, IsMemoryWord, IsCount}
 use Rattle.report_rows.specs.Rows.{text_row, number_row, bytes_row, entry_row, core_row, memory_row, count_row}
 use Rattle.report_rows.specs.Reading.{behind_name, fixed_of, number_from, number_row_of, sets_row_of, policy_row_of, turns_row_of, bytes_row_of, entry_row_of, entry_access_of, entry_words_of, end_row_of, end_numbers_of, two_words_at, four_words_at, eight_words_of, registers_row_of, memory_row_of, count_row_of}
