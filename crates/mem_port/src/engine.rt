@@ -17,7 +17,7 @@ pub enum Progress {
 /// An engine that runs one core, clock by clock. It wants words of code and answers to accesses,
 /// and goes on with what it is given.
 ///
-/// No call takes memory of the machine that it runs on.
+/// No call has an allocator, or an answer for want of memory.
 pub trait CoreEngine: Drop {
     /// The engine as contracts see it.
     ghost view: { Self → EngineView };

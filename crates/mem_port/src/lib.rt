@@ -3,6 +3,14 @@
 //! A core has two ports, one for fetches and one for accesses. A request goes through a port in
 //! three calls: it is asked, it is served, and its answer is taken. Between the second and the
 //! third it may wait, until steps of the memory answer it.
+//!
+//! Laws that crates above cite:
+//!
+//! - `proofs/LoadedLaws`: what a core does next, as a stop, a request or a quiet step.
+//! - `proofs/PortLaws`: ports, and what an answer adds to the entries of each core.
+//! - `proofs/SideLaws`: what calls for one core leave of the others, and what they mean to itself.
+//! - `proofs/CellLaws`: what a change of one cell leaves of all ports.
+//! - `proofs/ChangeLaws`: a memory in which one port changes keeps the law.
 #![tactic(auto)]
 
 mod cell;

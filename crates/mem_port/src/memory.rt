@@ -13,7 +13,7 @@ use image_file::Words;
 
 /// A memory with two ports for each core, and the history of what was done in it.
 ///
-/// No call takes memory of the machine that it runs on.
+/// No call has an allocator, or an answer for want of memory: all room is taken when it is made.
 pub trait MemoryCore: Drop {
     /// The memory as contracts see it.
     ghost view: { Self → MemoryView };
