@@ -1,3 +1,4 @@
 pub mod DigitsLemmas
 pub mod TokensLemmas
 pub mod PrintingLaws
+pub mod WorkedLemmas

@@ -3,3 +3,4 @@ pub mod Faults
 pub mod Numbers
 pub mod Tokens
 pub mod Printing
+pub mod Worked
