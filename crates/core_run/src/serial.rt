@@ -65,6 +65,7 @@ fn play<E: TimedEngine, M: MemoryCore>(memory: &mut M, seat: &mut Seat<E>, budge
         → SeatAt seat.old.lane.core (rounds + 1) budget (M.view memory.new) (E.view seat.new.engine) seat.new.lane seat.new.end seat.new.cycles }
     ensures others { LeavesOthers seat.old.lane.core (M.view memory.old) (M.view memory.new) }
     ensures made { Leads M.makes memory.old memory.new }
+    ensures ended { (end : End) → seat.old.end ≡ Some end → memory.new ≡ memory.old }
     ensures served { (rounds : ℕ) (pace : Pace)
         → SeatAt seat.old.lane.core rounds budget (M.view memory.old) (E.view seat.old.engine) seat.old.lane seat.old.end seat.old.cycles
         → IsServedAt E.view E.timed (M.view memory.old) seat.old.engine seat.old.lane seat.old.end seat.old.cycles pace
