@@ -1,1 +1,2 @@
+pub mod AtWorkLaws
 pub mod ScriptLaws

@@ -93,6 +93,9 @@ fn rounds<E: CoreEngine, M: MemoryCore>(
     requires first { IsAtWork first.old.left (E.view first.old.engine) first.old.lane (M.view memory.old) }
     requires second { IsAtWork second.old.left (E.view second.old.engine) second.old.lane (M.view memory.old) }
     requires apart { first.old.lane.core ≢ second.old.lane.core }
+    ensures first { IsAtWork first.new.left (E.view first.new.engine) first.new.lane (M.view memory.new) }
+    ensures second { IsAtWork second.new.left (E.view second.new.engine) second.new.lane (M.view memory.new) }
+    ensures apart { first.new.lane.core ≢ second.new.lane.core }
 {
     for _ in 0..count {
         turn(rt, memory, first, choice);
@@ -127,38 +130,45 @@ fn start(alloc: Global, image: &Image, cores: u32) -> Result<QueuedMemory<FlatMe
     Ok(QueuedMemory::new(alloc, memory, cores)?)
 }
 
-/// A request is answered when it was the first one for seven steps, and the access of a core is
-/// served before its fetch: with an even choice it is answered first, with an odd one the fetch.
-#[test]
-fn an_access_is_served_before_the_fetch(rt: HostRuntime) -> Result<(), Fail> {
-    let image = store(&rt, rt.alloc())?;
-    for choice in 0..2 {
-        let mut memory = start(rt.alloc(), &image, 1)?;
-        let mut core = Worker::new(&image, 0, 1, Some(4));
-        turns(&rt, &mut memory, &mut core, 7, choice);
-        assert!(rt; waits(&core) == (true, true));
-        turns(&rt, &mut memory, &mut core, 1, choice);
-        assert!(rt; waits(&core) == (choice == 1, choice == 0));
-        turns(&rt, &mut memory, &mut core, 6, choice);
-        assert!(rt; waits(&core) == (choice == 1, choice == 0));
-        turns(&rt, &mut memory, &mut core, 1, choice);
-        assert!(rt; waits(&core) == (false, false));
-    }
+/// The access of a core is served before its fetch: with an even choice it is answered first, with an
+/// odd one the fetch; each when it was the first one for seven steps.
+fn check_alone(rt: &impl Abort, alloc: Global, choice: u32) -> Result<(), Fail> {
+    let image = store(rt, alloc)?;
+    let mut memory = start(alloc, &image, 1)?;
+    let mut core = Worker::new(&image, 0, 1, Some(4));
+    turns(rt, &mut memory, &mut core, 7, choice);
+    assert!(rt; waits(&core) == (true, true));
+    turns(rt, &mut memory, &mut core, 1, choice);
+    assert!(rt; waits(&core) == (choice == 1, choice == 0));
+    turns(rt, &mut memory, &mut core, 6, choice);
+    assert!(rt; waits(&core) == (choice == 1, choice == 0));
+    turns(rt, &mut memory, &mut core, 1, choice);
+    assert!(rt; waits(&core) == (false, false));
     Ok(())
 }
 
 /// Two cores store, the first one first: with an odd choice the second one has its answer before.
+fn check_both(rt: &impl Abort, alloc: Global, choice: u32) -> Result<(), Fail> {
+    let image = store(rt, alloc)?;
+    let mut memory = start(alloc, &image, 2)?;
+    let mut first = Worker::new(&image, 0, 2, None);
+    let mut second = Worker::new(&image, 1, 2, None);
+    rounds(rt, &mut memory, &mut first, &mut second, 5, choice);
+    assert!(rt; waits(&first) == (true, false) && waits(&second) == (true, false));
+    rounds(rt, &mut memory, &mut first, &mut second, 2, choice);
+    assert!(rt; waits(&first) == (choice == 1, false));
+    assert!(rt; waits(&second) == (choice == 0, false));
+    Ok(())
+}
+
+#[test]
+fn an_access_is_served_before_the_fetch(rt: HostRuntime) -> Result<(), Fail> {
+    check_alone(&rt, rt.alloc(), 0)?;
+    check_alone(&rt, rt.alloc(), 1)
+}
+
 #[test]
 fn a_choice_lets_the_second_core_overtake(rt: HostRuntime) -> Result<(), Fail> {
-    let image = store(&rt, rt.alloc())?;
-    for choice in 0..2 {
-        let mut memory = start(rt.alloc(), &image, 2)?;
-        let mut first = Worker::new(&image, 0, 2, None);
-        let mut second = Worker::new(&image, 1, 2, None);
-        rounds(&rt, &mut memory, &mut first, &mut second, 5, choice);
-        assert!(rt; waits(&first).0 && waits(&second).0);
-        rounds(&rt, &mut memory, &mut first, &mut second, 2, choice);
-        assert!(rt; waits(&first).0 == (choice == 1) && waits(&second).0 == (choice == 0));
-    }
-    Ok(())
+    check_both(&rt, rt.alloc(), 0)?;
+    check_both(&rt, rt.alloc(), 1)
 }
