@@ -96,8 +96,8 @@ module _ {E S : Type 0} (view : E → EngineView) (times : Pace → E → Type 0
             tells = cycle.timed p _ served.tells (cycle-paces view times (side_in memory) makes pays p cycle kept tight);
             clocks = ap (λ n. n + 1) served.clocks;
             accesses = rw (cycle-core cycle) (map-append _ p.service.accesses (stamped (p.service.clocks + 1) more)
-            ∙ (ap (λ x. x ++ map (λ (stamp : Stamp). stamp.entry) (stamped (p.service.clocks + 1) more)) served.accesses
-            ∙ (ap (λ x. committed (memory s) before.core ++ x) (entries-stamped (p.service.clocks + 1) more) ∙ sym cycle.taken)));
+                ∙ (ap (λ x. x ++ map (λ (stamp : Stamp). stamp.entry) (stamped (p.service.clocks + 1) more)) served.accesses
+                ∙ (ap (λ x. committed (memory s) before.core ++ x) (entries-stamped (p.service.clocks + 1) more) ∙ sym cycle.taken)));
             bound = loose.bound;
             live = rw (drained_not, ends) (live-after result (cycles + 1) budget (view f) progressed ∙ sym (and_true _));
             tight = λ none. subst (λ (k : ℕ). IsNoTighter (pace_after came (view e) (side_of (memory t) before.core) after p) (side_of (memory t) k) after) (sym (cycle-core cycle)) loose;

@@ -46,7 +46,7 @@ returns-in_default-clause-at g c rounds at =
     record {
       lane_is = cycle-core f.cycle.1;
       holds = rw none (next-on g.E.CoreEngine.view g.E.CoreEngine.timed (λ (s : MutBor g.row.M.Denot). g.M.MemoryCore.view s.now) f.cycle.1 f.kept f.progressed on (search rules)
-      (sym c.end_after.ensures.end ∙ c.in_default.is) f.coupled f.runs);
+          (sym c.end_after.ensures.end ∙ c.in_default.is) f.coupled f.runs);
     }
 
 pub returns-in_default-clause-served : goal.returns-in_default-clause-served
