@@ -1,54 +1,327 @@
--- How an engine and its side go through a cycle of a core, and come to an end.
-use Rattle.std.proofs.Common.{◌≡◌, ℕ, ◌+◌, ◌/◌, ◌≤◌, inl, inr, Bool, true, false, Option, Some, None, List, [], ◌∷◌, ◌++◌, length, append-nil, refl, ap, sym, ◌∙◌, arith, subst, IsTrue}
-use Rattle.std.specs.Prelude.{slice_index, IfNone}
+-- How the calls of a cycle of a core and of its end follow one another, what they leave of its side, and how its engine goes on.
+use Rattle.std.proofs.Common.{◌≡◌, ◌≢◌, ℕ, ◌+◌, ◌/◌, ◌≤◌, inl, inr, Bool, true, false, Option, Some, None, List, [], ◌∷◌, ◌++◌, append-nil, refl, ap, sym, ◌∙◌, arith, subst, IsTrue}
+use Rattle.std.specs.Prelude.{◌||◌, is_some, option_map, slice_index}
 use Rattle.std.proofs.lemmas.Bool.{cases_Bool}
+use Rattle.std.proofs.lemmas.Option.{same_Some}
 use Rattle.image_file.specs.Value.{ImageValue, memory_bytes}
 use Rattle.access_log.specs.declared.request.Request.{Request}
 use Rattle.access_log.specs.declared.Entry.{Entry}
 use Rattle.access_log.specs.Memory.{made}
 use Rattle.access_log.specs.Requests.{entry_of, access_of, fetch_of}
 use Rattle.access_log.specs.Alone.{ComesTo}
-use Rattle.access_log.specs.Stamps.{Stamp, stamped}
 use Rattle.access_log.proofs.AloneLaws.{comes-goes, comes-does}
 use Rattle.mem_port.specs.declared.port.Port.{Port}
 use Rattle.mem_port.specs.declared.port.Port.TheVariants.{Fetch, Access}
+use Rattle.mem_port.specs.declared.port.PortState.{PortState}
+use Rattle.mem_port.specs.declared.port.PortState.TheVariants.{Answered}
 use Rattle.mem_port.specs.declared.port.Withdrawal.{Withdrawal}
 use Rattle.mem_port.specs.declared.port.Withdrawal.TheVariants as withdrawal
-use Rattle.mem_port.specs.declared.port.PortState.{PortState}
-use Rattle.mem_port.specs.declared.port.PortState.TheVariants.{Free, Closed}
 use Rattle.mem_port.specs.declared.engine.Progress.{Progress}
 use Rattle.mem_port.specs.declared.engine.Progress.TheVariants as progress
+use Rattle.mem_port.specs.Calls.{Call}
+use Rattle.mem_port.specs.Engine.{EngineView, IsSound, FetchFits, ReplyFits, Rests, GoesOn, Finishes, Acts, KeepsEngine, Clocks, Drains}
 use Rattle.mem_port.specs.Loaded.{request, IsProperAccess, next_in, finish}
-use Rattle.mem_port.specs.Ports.{core_of}
-use Rattle.mem_port.specs.Engine.{EngineView, IsSound, FetchFits, Rests, GoesOn, Finishes, Acts, KeepsEngine, Clocks, Ends, Drains}
-use Rattle.mem_port.specs.Pace.{IsLeft, Paces, executed_by}
-use Rattle.mem_port.specs.Side.{Mark, Served, mark, Holds, SideView, LeavesPort, SideLeaves, SideTakes, SideWithdraws}
+use Rattle.mem_port.specs.Pace.{Pace, is_unmet, one_if, executed_by}
+use Rattle.mem_port.specs.Ports.{core_of, MayAsk, IsUnanswered, entries_of}
+use Rattle.mem_port.specs.Side.{Mark, Served, mark, Holds, Evolves, SideView, KeepsSide, LeavesPort, SideTakes, SideWithdraws}
 use Rattle.mem_port.proofs.LoadedLaws.{request-asks, request-proper, request-no_stop, next-goes}
-use Rattle.mem_port.proofs.SideLaws.{mark-evolves}
+use Rattle.mem_port.proofs.SideLaws.{mark-evolves, evolves-twice}
 use Rattle.core_run.specs.declared.lane.Lane.{Lane}
-use Rattle.core_run.specs.Lanes.{Reaches, FetchPort, AccessPort, ReachesWith, InHand, IsCoupled, StopsWhereDead, UsesAsks, IsQuiet, IsHalfFinished, IsFinished, wait_left, WaitsLess, pace_of}
+use Rattle.core_run.specs.declared.lane.Came.{Came}
+use Rattle.core_run.specs.Cycle.{opens, sends, takes, steps, cycle_calls, moved_in, wait_left, late_reply, found_by, WasOn, IsDrained}
+use Rattle.core_run.specs.Lanes.{RunsAlone, IsCoupled, PortHolds, StopsWhereDead, IsQuiet}
+use Rattle.core_run.specs.Meets.{Makes, Opens, TakesUp, Fits, StepsOn, Meets, Closes, entries_by}
+use Rattle.core_run.proofs.LeadLaws.{lead-append}
 
 -- A fact goes along an equation.
 along : {A : Type 0} (P : A → Type 0) {a b : A} → b ≡ a → P a → P b
 along P e h = subst P (sym e) h
 
+-- Calls for a core, one after another.
+
+module _ {S : Type 0} (serves : S → ℕ → Type 0) (makes : Call → S → S → Type 0) (leaves : ℕ → S → S → Type 0) (pays : ℕ → ℕ → S → S → Type 0)
+    (goes_on : (core : ℕ) (s t u : S) → leaves core s t → leaves core t u → leaves core s u)
+    (adds_up : (core j k : ℕ) (s t u : S) → leaves core s t → pays core j s t → pays core k t u → pays core (j + k) s u) (core : ℕ) where
+  -- Calls of which the first make no step.
+  pub makes-then : (first second : List Call) (steps : ℕ) (s t u : S) → Makes serves makes leaves pays core first 0 s t → Makes serves makes leaves pays core second steps t u
+      → Makes serves makes leaves pays core (first ++ second) steps s u
+  makes-then first second steps s t u h k =
+      let all : steps ≡ 0 + steps = omega arith in
+      record {
+        serves_on = k.serves_on;
+        lead = lead-append makes first second s t u h.lead k.lead;
+        others = goes_on core s t u h.others k.others;
+        paid = along (λ n. pays core n s u) all (adds_up core 0 steps s t u h.others h.paid k.paid);
+      }
+
+  -- Those of a cycle.
+  pub makes-cycle : (choice : ℕ) (e : EngineView) (lane : Lane) (came : Came) (access fetch : Option Request) (s0 s1 s2 s3 s4 s5 : S) → access ≡ e.access → fetch ≡ option_map fetch_of e.fetch
+      → Makes serves makes leaves pays core (sends (Access lane.core) (opens lane.open_access access)) 0 s0 s1
+      → Makes serves makes leaves pays core (sends (Fetch lane.core) (opens lane.open_fetch fetch)) 0 s1 s2
+      → Makes serves makes leaves pays core (takes (Access lane.core) access came.reply) 0 s2 s3
+      → Makes serves makes leaves pays core (takes (Fetch lane.core) fetch came.fetched) 0 s3 s4
+      → Makes serves makes leaves pays core (steps choice came.step) (moved_in came.step) s4 s5
+      → Makes serves makes leaves pays core (cycle_calls choice e lane came) (moved_in came.step) s0 s5
+  makes-cycle choice e lane came access fetch s0 s1 s2 s3 s4 s5 is_access is_fetch a b c d k =
+      let to = λ (calls : List Call) (s t : S). Makes serves makes leaves pays core calls 0 s t in
+      makes-then _ _ _ s0 s1 s5 (along (λ calls. to calls s0 s1) (ap (λ want. sends (Access lane.core) (opens lane.open_access want)) (sym is_access)) a)
+      (makes-then _ _ _ s1 s2 s5 (along (λ calls. to calls s1 s2) (sends-fetch (Fetch lane.core) lane.open_fetch e.fetch ∙ ap (λ want. sends (Fetch lane.core) (opens lane.open_fetch want)) (sym is_fetch)) b)
+      (makes-then _ _ _ s2 s3 s5 (along (λ calls. to calls s2 s3) (ap (λ want. takes (Access lane.core) want came.reply) (sym is_access)) c)
+      (makes-then _ _ _ s3 s4 s5 (along (λ calls. to calls s3 s4) (takes-fetch (Fetch lane.core) e.fetch came.fetched ∙ ap (λ want. takes (Fetch lane.core) want came.fetched) (sym is_fetch)) d) k)))
+    where
+      sends-fetch : (p : Port) (is_open : Bool) (want : Option ℕ) → sends p (option_map fetch_of (opens is_open want)) ≡ sends p (opens is_open (option_map fetch_of want))
+      sends-fetch p true want = refl
+      sends-fetch p false want = refl
+
+      takes-fetch : (p : Port) (want answer : Option ℕ) → takes p want answer ≡ takes p (option_map fetch_of want) answer
+      takes-fetch p None answer = refl
+      takes-fetch p (Some addr) answer = refl
+
+-- What calls leave of a side.
+
+keeps-then : (a b d : SideView) → KeepsSide a b → KeepsSide b d → KeepsSide a d
+keeps-then a b d h k = record {
+  image = k.image ∙ h.image;
+  cores = k.cores ∙ h.cores;
+  tells_distances = k.tells_distances ∙ h.tells_distances;
+  bound = k.bound ∙ h.bound;
+}
+
+-- The answer to what is wanted.
+
+pub executed-none : (core : ℕ) (want : Option Request) → executed_by core want None ≡ []
+executed-none core None = refl
+executed-none core (Some r) = refl
+
+entries-none : (p : Port) (want : Option Request) → entries_by p want None ≡ []
+entries-none (Fetch core) want = refl
+entries-none (Access core) want = executed-none core want
+
+entries-some : (p : Port) (r : Request) (word : ℕ) → entries_by p (Some r) (Some word) ≡ entries_of p r word
+entries-some (Fetch core) r word = refl
+entries-some (Access core) r word = refl
+
+-- Where nothing is taken.
+taken-none : (p : Port) (want : Option Request) (old new : SideView) → new.taken ≡ old.taken → new.taken ≡ old.taken ++ entries_by p want None
+taken-none p want old new same = same ∙ sym (ap (λ more. old.taken ++ more) (entries-none p want) ∙ append-nil old.taken)
+
+taken-some : (p : Port) (r : Request) (word : ℕ) (old new : SideView) → new.taken ≡ old.taken ++ entries_of p r word → new.taken ≡ old.taken ++ entries_by p (Some r) (Some word)
+taken-some p r word old new taken = taken ∙ ap (λ more. old.taken ++ more) (sym (entries-some p r word))
+
+takes-wanted : (answer : Option ℕ) (p : Port) (r : Request) (old new : SideView) → mark (old.port p) ≡ Served r → SideTakes answer p r old new → TakesUp p (Some r) answer old new
+takes-wanted None p r old new on h = record {
+  kept = h.stays.kept;
+  other = record { port = λ q ne c. h.stays.ports q c; asks = λ q ne c. h.stays.asks q c; patience = λ told q ne c. h.patience told q c };
+  port = ap mark h.port;
+  asks = h.stays.asks p refl;
+  taken = taken-none p (Some r) old new h.stays.taken;
+  fits = tt;
+  patience = λ told unmet. (h.some_left told, h.patience told p refl);
+}
+takes-wanted (Some word) p r old new on h = record {
+  kept = h.1.0.kept;
+  other = h.1.0.other;
+  port = ap mark h.1.0.port;
+  asks = h.1.0.asks;
+  taken = taken-some p r word old new h.1.0.taken;
+  fits = h.0;
+  patience = λ told unmet. cc;
+}
+
+pub takes-answer : (answer : Option ℕ) (p : Port) (want : Option Request) (old new : SideView) → is_some want ≡ true → PortHolds (is_some want) (mark (old.port p)) want
+    → ((r : Request) → mark (old.port p) ≡ Served r → SideTakes answer p r old new) → TakesUp p want answer old new
+takes-answer answer p None old new some h taken = cc
+takes-answer answer p (Some r) old new some h taken = takes-wanted answer p r old new h (taken r h)
+
+-- The end of what is open.
+
+closes-wanted : (answer : Withdrawal) (p : Port) (r : Request) (old new : SideView) → SideWithdraws answer p r old new → Closes p true (Some r) answer old new
+closes-wanted withdrawal.Withdrawn p r old new h = record {
+  kept = h.0.kept;
+  other = h.0.other;
+  port = along (λ port. IsQuiet (mark port)) h.0.port tt;
+  asks = h.0.asks;
+  taken = taken-none p (Some r) old new (h.0.taken ∙ append-nil old.taken);
+  was = λ on s is. h.1;
+}
+closes-wanted (withdrawal.Answered word) p r old new h = record {
+  kept = h.0.kept;
+  other = h.0.other;
+  port = along (λ port. IsQuiet (mark port)) h.0.port tt;
+  asks = h.0.asks;
+  taken = taken-some p r word old new h.0.taken;
+  was = λ on s is. along (λ t. Evolves (old.port p) (Answered t word)) (sym (same_Some r s is)) h.1;
+}
+
+-- There is a request on an open port.
+pub open-holds : (is_open : Bool) (port : Mark) (want : Option Request) → is_open ≡ true → PortHolds is_open port want → (r : Request) × Holds port r
+open-holds true port None on h = absurd h
+open-holds true port (Some r) on h = (r, along (λ x. Holds x r) h refl)
+open-holds false port want on h = cc
+
+pub closes-open : (answer : Withdrawal) (p : Port) (is_open : Bool) (want : Option Request) (old new : SideView) → is_open ≡ true → PortHolds is_open (mark (old.port p)) want
+    → ((r : Request) → Holds (mark (old.port p)) r → SideWithdraws answer p r old new) → Closes p is_open want answer old new
+closes-open answer p true None old new on h withdrawn = absurd h
+closes-open answer p true (Some r) old new on h withdrawn = closes-wanted answer p r old new (withdrawn r (along (λ x. Holds x r) h refl))
+closes-open answer p false want old new on h withdrawn = cc
+
+-- A cycle but for its clock.
+
+told_on : {old new : SideView} → KeepsSide old new → IsTrue old.tells_distances → IsTrue new.tells_distances
+told_on kept told = kept.tells_distances ∙ told
+
+mark-left : (p q : Port) (old new : SideView) → LeavesPort p old new → q ≢ p → core_of q ≡ core_of p → mark (new.port q) ≡ mark (old.port q)
+mark-left p q old new h ne same = mark-evolves _ _ (h.port q ne same)
+
+unmet-some : {W : Type 0} (want : Option W) (answer : Option ℕ) → is_unmet want answer ≡ true → is_some want ≡ true
+unmet-some None None unmet = cc
+unmet-some None (Some word) unmet = cc
+unmet-some (Some want) answer unmet = refl
+
+unmet-fetch : (want answer : Option ℕ) → is_unmet (option_map fetch_of want) answer ≡ is_unmet want answer
+unmet-fetch None None = refl
+unmet-fetch None (Some word) = refl
+unmet-fetch (Some addr) None = refl
+unmet-fetch (Some addr) (Some word) = refl
+
+opens-fetch : (is_open : Bool) (want : Option ℕ) → is_some (opens is_open (option_map fetch_of want)) ≡ is_some (opens is_open want)
+opens-fetch true want = refl
+opens-fetch false None = refl
+opens-fetch false (Some addr) = refl
+
+either-left : (a b : Bool) → a ≡ true → (a || b) ≡ true
+either-left true b on = refl
+either-left false b on = cc
+
+either-right : (a b : Bool) → b ≡ true → (a || b) ≡ true
+either-right true b on = refl
+either-right false b on = on
+
+wait_less : (is_open : Bool) (a b bound bound′ x : ℕ) → bound′ ≡ bound → b ≤ a → x ≤ wait_left is_open b bound′ → x ≤ wait_left is_open a bound
+wait_less true a b bound bound′ x same h k = omega arith
+wait_less false a b bound bound′ x same h k = omega arith
+
+fits-fetch : (image side_image : ImageValue) (core : ℕ) (want answer : Option ℕ) → side_image ≡ image → Fits side_image (Fetch core) (option_map fetch_of want) answer → FetchFits image want answer
+fits-fetch image side_image core want None same h = tt
+fits-fetch image side_image core None (Some word) same h = h
+fits-fetch image side_image core (Some addr) (Some word) same h = h ∙ ap (λ (image : ImageValue). slice_index image.code (addr / 4)) same
+
+fits-reply : (image : ImageValue) (core : ℕ) (want : Option Request) (answer : Option ℕ) → Fits image (Access core) want answer → ReplyFits want answer
+fits-reply image core want None h = tt
+fits-reply image core None (Some word) h = h
+fits-reply image core (Some r) (Some word) h = tt
+
+module _ (e : EngineView) (lane : Lane) (came : Came) (s0 s1 s2 s3 s4 s5 : SideView) (coupled : IsCoupled e s0 lane)
+    (a : Opens (Access lane.core) lane.open_access e.access s0 s1) (b : Opens (Fetch lane.core) lane.open_fetch (option_map fetch_of e.fetch) s1 s2)
+    (c : TakesUp (Access lane.core) e.access came.reply s2 s3) (d : TakesUp (Fetch lane.core) (option_map fetch_of e.fetch) came.fetched s3 s4)
+    (k : StepsOn lane.core (is_unmet e.access came.reply || is_unmet e.fetch came.fetched) came.step s4 s5) where
+  abbrev access : Port
+  access = Access lane.core
+
+  abbrev fetch : Port
+  fetch = Fetch lane.core
+
+  kept2 : KeepsSide s0 s2
+  kept2 = keeps-then s0 s1 s2 a.kept b.kept
+
+  kept3 : KeepsSide s0 s3
+  kept3 = keeps-then s0 s2 s3 kept2 c.kept
+
+  kept4 : KeepsSide s0 s4
+  kept4 = keeps-then s0 s3 s4 kept3 d.kept
+
+  taken-all : s5.taken ≡ s0.taken ++ executed_by e.core e.access came.reply
+  taken-all =
+      let core : executed_by lane.core e.access came.reply ≡ executed_by e.core e.access came.reply = ap (λ core. executed_by core e.access came.reply) (sym coupled.core) in
+      k.stays.taken ∙ (d.taken ∙ (append-nil s3.taken ∙ (c.taken ∙ (ap (λ own. own ++ executed_by lane.core e.access came.reply) (b.taken ∙ a.taken) ∙ ap (λ more. s0.taken ++ more) core))))
+
+  asks-fetch : s5.asks_left fetch + one_if (is_some (opens lane.open_fetch e.fetch)) ≡ s0.asks_left fetch
+  asks-fetch =
+      let same : s5.asks_left fetch ≡ s2.asks_left fetch = k.stays.asks fetch refl ∙ (d.asks ∙ c.other.asks fetch (λ e. cc) refl) in
+      ap (λ n. n + one_if (is_some (opens lane.open_fetch e.fetch))) same
+      ∙ (ap (λ asked. s2.asks_left fetch + one_if asked) (sym (opens-fetch lane.open_fetch e.fetch)) ∙ (b.asks ∙ a.other.asks fetch (λ e. cc) refl))
+
+  asks-access : s5.asks_left access + one_if (is_some (opens lane.open_access e.access)) ≡ s0.asks_left access
+  asks-access =
+      let same : s5.asks_left access ≡ s1.asks_left access = k.stays.asks access refl ∙ (d.other.asks access (λ e. cc) refl ∙ (c.asks ∙ b.other.asks access (λ e. cc) refl)) in
+      ap (λ n. n + one_if (is_some (opens lane.open_access e.access))) same ∙ a.asks
+
+  waits-fetch : IsTrue s0.tells_distances → is_unmet e.fetch came.fetched ≡ true → s5.patience fetch + 1 ≤ wait_left lane.open_fetch (s0.patience fetch) s0.bound
+  waits-fetch told unmet =
+      let wanted = unmet-fetch e.fetch came.fetched ∙ unmet in
+      let was = a.other.patience told fetch (λ e. cc) refl in
+      let opened = b.patience (told_on a.kept told) (unmet-some (option_map fetch_of e.fetch) came.fetched wanted) in
+      let passed = c.other.patience (told_on kept2 told) fetch (λ e. cc) refl in
+      let took = d.patience (told_on kept3 told) wanted in
+      let less = k.patience (told_on kept4 told) (either-right _ _ unmet) fetch refl in
+      let one = took.0 in
+      let same = took.1 in
+      wait_less lane.open_fetch _ _ _ _ _ a.kept.bound was (let all : s5.patience fetch + 1 ≤ wait_left lane.open_fetch (s1.patience fetch) s1.bound = omega (arith, opened, passed, one, same, less) in all)
+
+  waits-access : IsTrue s0.tells_distances → is_unmet e.access came.reply ≡ true → s5.patience access + 1 ≤ wait_left lane.open_access (s0.patience access) s0.bound
+  waits-access told unmet =
+      let opened = a.patience told (unmet-some e.access came.reply unmet) in
+      let passed = b.other.patience (told_on a.kept told) access (λ e. cc) refl in
+      let took = c.patience (told_on kept2 told) unmet in
+      let later = d.other.patience (told_on kept3 told) access (λ e. cc) refl in
+      let less = k.patience (told_on kept4 told) (either-left _ _ unmet) access refl in
+      let one = took.0 in
+      let same = took.1 in
+      omega (arith, opened, passed, one, same, later, less)
+
+  meets-wants : Meets e lane came s0 s5
+  meets-wants = record {
+    kept = keeps-then s0 s4 s5 kept4 k.stays.kept;
+    step = k.step_is;
+    fetch = along (λ port. PortHolds (is_unmet e.fetch came.fetched) port (option_map fetch_of e.fetch)) (mark-evolves _ _ (k.stays.ports fetch refl))
+        (subst (λ unmet. PortHolds unmet (mark (s4.port fetch)) (option_map fetch_of e.fetch)) (unmet-fetch e.fetch came.fetched) d.port);
+    access = along (λ port. PortHolds (is_unmet e.access came.reply) port e.access)
+        (mark-evolves _ _ (k.stays.ports access refl) ∙ mark-left fetch access s3 s4 d.other (λ e. cc) refl) c.port;
+    fetch_fits = fits-fetch e.image s3.image lane.core e.fetch came.fetched (kept3.image ∙ sym coupled.image) d.fits;
+    reply_fits = fits-reply s2.image lane.core e.access came.reply c.fits;
+    taken = taken-all;
+    asks = record { fetch = asks-fetch; access = asks-access };
+    waits = record { fetch = waits-fetch; access = waits-access };
+    idle = k.idle;
+  }
+
+pub meets : (e : EngineView) (lane : Lane) (came : Came) (access fetch : Option Request) (open_access open_fetch : Bool) (s0 s1 s2 s3 s4 s5 : SideView) → IsCoupled e s0 lane
+    → access ≡ e.access → fetch ≡ option_map fetch_of e.fetch → open_access ≡ is_unmet access came.reply → open_fetch ≡ is_unmet fetch came.fetched
+    → Opens (Access lane.core) lane.open_access access s0 s1 → Opens (Fetch lane.core) lane.open_fetch fetch s1 s2
+    → TakesUp (Access lane.core) access came.reply s2 s3 → TakesUp (Fetch lane.core) fetch came.fetched s3 s4
+    → StepsOn lane.core (open_access || open_fetch) came.step s4 s5 → Meets e lane came s0 s5
+meets e lane came access fetch open_access open_fetch s0 s1 s2 s3 s4 s5 coupled is_access is_fetch on_access on_fetch a b c d k =
+    let unmet_access : open_access ≡ is_unmet e.access came.reply = on_access ∙ ap (λ want. is_unmet want came.reply) is_access in
+    let unmet_word : open_fetch ≡ is_unmet e.fetch came.fetched = on_fetch ∙ (ap (λ want. is_unmet want came.fetched) is_fetch ∙ unmet-fetch e.fetch came.fetched) in
+    meets-wants e lane came s0 s1 s2 s3 s4 s5 coupled
+    (along (λ want. Opens (Access lane.core) lane.open_access want s0 s1) (sym is_access) a)
+    (along (λ want. Opens (Fetch lane.core) lane.open_fetch want s1 s2) (sym is_fetch) b)
+    (along (λ want. TakesUp (Access lane.core) want came.reply s2 s3) (sym is_access) c)
+    (along (λ want. TakesUp (Fetch lane.core) want came.fetched s3 s4) (sym is_fetch) d)
+    (subst (λ (is_open : Bool). StepsOn lane.core is_open came.step s4 s5) (rw (unmet_access, unmet_word) refl) k)
+
+-- A wanted access may be asked.
+pub access-proper : (e : EngineView) (image : ImageValue) (core : ℕ) (r : Request) → e.image ≡ image → IsSound e → e.access ≡ Some r → MayAsk image (Access core) r
+access-proper e image core r same sound want =
+    subst (λ (x : ImageValue). IsProperAccess x r.kind r.addr) same (request-proper e.image e.executed e.state r (sound.access_next r want))
+
 -- The steps of an engine are those of its core by itself.
 
 -- Where nothing is executed.
-reaches-rests : (old new : EngineView) (es : List Entry) → KeepsEngine old new → Rests old new → Reaches old es → Reaches new es
-reaches-rests old new es k r h = record { comes = rw (k.image, k.core, k.cores, r.executed, r.state) h.comes }
+runs-rests : (old new : EngineView) (es : List Entry) → KeepsEngine old new → Rests old new → RunsAlone old es → RunsAlone new es
+runs-rests old new es k r h = record { comes = rw (k.image, k.core, k.cores, r.executed, r.state) h.comes }
 
 -- One instruction without an access.
-reaches-goes : (old new : EngineView) (es : List Entry) → KeepsEngine old new → GoesOn old new → Reaches old es → Reaches new es
+runs-goes : (old new : EngineView) (es : List Entry) → KeepsEngine old new → GoesOn old new → RunsAlone old es → RunsAlone new es
 unfolding next_in
-reaches-goes old new es k g h =
+runs-goes old new es k g h =
     record {
       comes = rw (k.image, k.core, k.cores, g.executed, g.state)
           (comes-goes old.image.code (memory_bytes old.image) old.cores old.core es old.executed old.state _ h.comes (next-goes old.image old.executed old.state g.no_stop g.no_access));
     }
 
 -- One access.
-does : (e : EngineView) (es : List Entry) (r : Request) (word : ℕ) → request e.image e.executed e.state ≡ Some r → Reaches e es →
+does : (e : EngineView) (es : List Entry) (r : Request) (word : ℕ) → request e.image e.executed e.state ≡ Some r → RunsAlone e es →
     ComesTo e.image.code (memory_bytes e.image) e.cores e.core (es ++ entry_of e.core r word ∷ []) (e.executed + 1) (finish e.image e.state word)
 unfolding next_in finish entry_of
 does e es r word next h =
@@ -56,260 +329,77 @@ does e es r word next h =
     along (λ n. ComesTo e.image.code (memory_bytes e.image) e.cores e.core (es ++ made e.core n (access_of r) word ∷ []) (e.executed + 1) (finish e.image e.state word)) asks.1
     (comes-does e.image.code (memory_bytes e.image) e.cores e.core es e.executed e.state (access_of r) word h.comes asks.0)
 
-reaches-finish : (word : ℕ) (old new : EngineView) (es : List Entry) → IsSound old → KeepsEngine old new → Finishes word old new → ReachesWith (Some word) old es → Reaches new es
-reaches-finish word old new es sound k f h =
-    along (λ x. Reaches new x) h.1.1.1.0
-    (record { comes = rw (k.image, k.core, k.cores, f.executed, f.state) (does old h.0 h.1.0 word (sound.access_next h.1.0 h.1.1.0) h.1.1.1.1) })
+runs-finishes : (want : Option Request) (word : ℕ) (old new : EngineView) (es : List Entry) → old.access ≡ want → IsSound old → KeepsEngine old new → Finishes word old new → ReplyFits want (Some word) → RunsAlone old es
+    → RunsAlone new (es ++ executed_by old.core want (Some word))
+runs-finishes None word old new es is sound k f fits h = absurd fits
+runs-finishes (Some r) word old new es is sound k f fits h =
+    record { comes = rw (k.image, k.core, k.cores, f.executed, f.state) (does old es r word (sound.access_next r is) h) }
 
-reaches-acts : (reply : Option ℕ) (result : Progress) (old new : EngineView) (es : List Entry) → IsSound old → KeepsEngine old new → Acts reply result old new → ReachesWith reply old es → Reaches new es
-reaches-acts (Some word) progress.Running old new es sound k a h = reaches-finish word old new es sound k a.0 h
-reaches-acts (Some word) (progress.Stopped why) old new es sound k a h = absurd a
-reaches-acts None progress.Running old new es sound k a h =
-    elim a.0 as (λ _. Reaches new es) [ inl r ↦ reaches-rests old new es k r h | inr g ↦ reaches-goes old new es k g h ]
-reaches-acts None (progress.Stopped why) old new es sound k a h = reaches-rests old new es k a.1.0 h
+-- Where nothing is executed by an answer.
+runs-none : (old new : EngineView) (es : List Entry) → RunsAlone new es → RunsAlone new (es ++ executed_by old.core old.access None)
+runs-none old new es h = along (λ es. RunsAlone new es) (ap (λ more. es ++ more) (executed-none old.core old.access) ∙ append-nil es) h
 
-reaches-ends : (reply : Option ℕ) (old new : EngineView) (es : List Entry) → IsSound old → KeepsEngine old new → Ends reply old new → ReachesWith reply old es → Reaches new es
-reaches-ends None old new es sound k r h = reaches-rests old new es k r h
-reaches-ends (Some word) old new es sound k f h = reaches-finish word old new es sound k f h
+runs-acts : (reply : Option ℕ) (result : Progress) (old new : EngineView) (es : List Entry) → IsSound old → KeepsEngine old new → Acts reply result old new → ReplyFits old.access reply → RunsAlone old es
+    → RunsAlone new (es ++ executed_by old.core old.access reply)
+runs-acts (Some word) progress.Running old new es sound k a fits h = runs-finishes old.access word old new es refl sound k a.0 fits h
+runs-acts (Some word) (progress.Stopped why) old new es sound k a fits h = absurd a
+runs-acts None progress.Running old new es sound k a fits h =
+    runs-none old new es (elim a.0 as (λ _. RunsAlone new es) [ inl r ↦ runs-rests old new es k r h | inr g ↦ runs-goes old new es k g h ])
+runs-acts None (progress.Stopped why) old new es sound k a fits h = runs-none old new es (runs-rests old new es k a.1.0 h)
 
--- What is on an open port.
+-- An engine that was clocked with what came runs on as its side is.
+pub runs-clocked : (came : Came) (result : Progress) (e f : EngineView) (lane : Lane) (old new : SideView) → IsSound e → Clocks came.fetched came.reply result e f → Meets e lane came old new → RunsAlone e old.taken → RunsAlone f new.taken
+runs-clocked came result e f lane old new sound k m h = along (λ es. RunsAlone f es) m.taken (runs-acts came.reply result e f old.taken sound k.kept k.acts m.reply_fits h)
 
-access_open : (is_open : Bool) (port : Mark) (want : Option Request) → is_open ≡ true → AccessPort is_open port want → (r : Request) × ((want ≡ Some r) × (port ≡ Served r))
-access_open true port None on h = absurd h
-access_open true port (Some r) on h = (r, (refl, h))
-access_open false port want on h = cc
-
-fetch_open : (is_open : Bool) (port : Mark) (want : Option ℕ) → is_open ≡ true → FetchPort is_open port want → (addr : ℕ) × ((want ≡ Some addr) × (port ≡ Served (fetch_of addr)))
-fetch_open true port None on h = absurd h
-fetch_open true port (Some addr) on h = (addr, (refl, h))
-fetch_open false port want on h = cc
-
-holds_served : (port : Mark) (r : Request) → port ≡ Served r → Holds port r
-holds_served port r e = along (λ x. Holds x r) e refl
-
-pub access-holds : (is_open : Bool) (port : Mark) (want : Option Request) → is_open ≡ true → AccessPort is_open port want → (r : Request) × Holds port r
-access-holds is_open port want on h = let o = access_open is_open port want on h in (o.0, holds_served port o.0 o.1.1)
-
-pub fetch-holds : (is_open : Bool) (port : Mark) (want : Option ℕ) → is_open ≡ true → FetchPort is_open port want → (r : Request) × Holds port r
-fetch-holds is_open port want on h = let o = fetch_open is_open port want on h in (fetch_of o.0, holds_served port (fetch_of o.0) o.1.1)
-
--- A wanted access may be asked.
-pub access-proper : (e : EngineView) (image : ImageValue) (r : Request) → e.image ≡ image → IsSound e → e.access ≡ Some r → IsProperAccess image r.kind r.addr
-access-proper e image r same sound want =
-    let P : ImageValue → Type 0 = λ x. IsProperAccess x r.kind r.addr in subst P same (request-proper e.image e.executed e.state r (sound.access_next r want))
-
--- What a call on one port leaves of the core's other port.
-
-fetch_mark : (core : ℕ) (old new : SideView) → LeavesPort (Access core) old new → mark (new.port (Fetch core)) ≡ mark (old.port (Fetch core))
-fetch_mark core old new h = mark-evolves _ _ (h.port (Fetch core) (λ e. cc) refl)
-
-access_mark : (core : ℕ) (old new : SideView) → LeavesPort (Fetch core) old new → mark (new.port (Access core)) ≡ mark (old.port (Access core))
-access_mark core old new h = mark-evolves _ _ (h.port (Access core) (λ e. cc) refl)
-
--- Where a port is freed or closed, no ask is used.
-pub leaves-asks : (p : Port) (state : PortState) (more : List Entry) (old new : SideView) → SideLeaves p state more old new → UsesAsks (core_of p) 0 0 old new
-leaves-asks (Fetch core) state more old new h =
-    let fetch = h.asks in
-    let access = h.other.asks (Access core) (λ e. cc) refl in
-    record { fetch = omega (arith, fetch); access = omega (arith, access) }
-leaves-asks (Access core) state more old new h =
-    let fetch = h.other.asks (Fetch core) (λ e. cc) refl in
-    let access = h.asks in
-    record { fetch = omega (arith, fetch); access = omega (arith, access) }
-
-pub leaves-fetch : (core : ℕ) (state : PortState) (more : List Entry) (old new : SideView) → SideLeaves (Access core) state more old new → IsTrue old.tells_distances → new.patience (Fetch core) ≤ old.patience (Fetch core)
-leaves-fetch core state more old new h told = h.other.patience told (Fetch core) (λ e. cc) refl
-
-pub leaves-access : (core : ℕ) (state : PortState) (more : List Entry) (old new : SideView) → SideLeaves (Fetch core) state more old new → IsTrue old.tells_distances → new.patience (Access core) ≤ old.patience (Access core)
-leaves-access core state more old new h told = h.other.patience told (Access core) (λ e. cc) refl
-
--- The wanted access was answered, its port is left in a state, and its entry is taken.
-abbrev pub LeavesAccess : PortState → ℕ → EngineView → SideView → SideView → ℕ → Type 0
-LeavesAccess state word e old new core = (r : Request) × ((e.access ≡ Some r) × SideLeaves (Access core) state (entry_of core r word ∷ []) old new)
-
--- It is so where the answer is taken from its open port.
-pub access-leaves : (e : EngineView) (old new : SideView) (lane : Lane) (word : ℕ) → lane.open_access ≡ true → IsCoupled None None e old lane →
-    ((r : Request) → mark (old.port (Access lane.core)) ≡ Served r → SideTakes (Some word) (Access lane.core) r old new) → LeavesAccess Free word e old new lane.core
-access-leaves e old new lane word on h takes =
-    let o = access_open lane.open_access (mark (old.port (Access lane.core))) e.access on h.access in (o.0, (o.1.0, (takes o.0 o.1.1).1.0))
-
--- It is so where the access is withdrawn and was done.
-pub answered-leaves : (e : EngineView) (old new : SideView) (lane : Lane) (word : ℕ) → lane.open_access ≡ true → IsCoupled None None e old lane →
-    ((r : Request) → Holds (mark (old.port (Access lane.core))) r → SideWithdraws (withdrawal.Answered word) (Access lane.core) r old new) → LeavesAccess Closed word e old new lane.core
-answered-leaves e old new lane word on h withdraws =
-    let o = access_open lane.open_access (mark (old.port (Access lane.core))) e.access on h.access in (o.0, (o.1.0, (withdraws o.0 (holds_served _ o.0 o.1.1)).0))
-
--- An access that is withdrawn and wasn't done leaves no entry.
-pub withdrawn-leaves : (e : EngineView) (old new : SideView) (lane : Lane) → lane.open_access ≡ true → IsCoupled None None e old lane →
-    ((r : Request) → Holds (mark (old.port (Access lane.core))) r → SideWithdraws withdrawal.Withdrawn (Access lane.core) r old new) → SideLeaves (Access lane.core) Closed [] old new
-withdrawn-leaves e old new lane on h withdraws =
-    let o = access-holds lane.open_access (mark (old.port (Access lane.core))) e.access on h.access in (withdraws o.0 o.1).0
-
--- An answer was taken: what was taken is one entry ahead of what was executed.
-reaches-ahead : (state : PortState) (word : ℕ) (e : EngineView) (old new : SideView) (lane : Lane) → IsCoupled None None e old lane → LeavesAccess state word e old new lane.core → ReachesWith (Some word) e new.taken
-reaches-ahead state word e old new lane h t = (old.taken, (t.0, (t.1.0, (t.1.1.taken ∙ ap (λ core. old.taken ++ entry_of core t.0 word ∷ []) (sym h.core), h.reaches))))
-
--- An engine and its side, with the answer in hand.
-pub access-taken : (e : EngineView) (old new : SideView) (lane : Lane) (word : ℕ) → IsCoupled None None e old lane → LeavesAccess Free word e old new lane.core → IsCoupled None (Some word) e new (record lane { open_access = false })
-access-taken e old new lane word h t = record {
-  core = h.core;
-  image = h.image ∙ sym t.1.1.kept.image;
-  cores = h.cores ∙ sym t.1.1.kept.cores;
-  sound = h.sound;
-  reaches = reaches-ahead Free word e old new lane h t;
-  fetch = along (λ port. FetchPort lane.open_fetch port e.fetch) (fetch_mark lane.core old new t.1.1.other) h.fetch;
-  access = ap mark t.1.1.port;
-  fits = tt;
-  fetch_hand = tt;
-  access_hand = refl;
-}
-
--- The wanted word of code has come, and its port is free.
-abbrev pub LeavesFetch : ℕ → EngineView → SideView → SideView → ℕ → Type 0
-LeavesFetch word e old new core = (addr : ℕ) × ((e.fetch ≡ Some addr) × ((word ≡ slice_index e.image.code (addr / 4)) × SideLeaves (Fetch core) Free [] old new))
-
--- It is so where the word is taken from its open port.
-pub fetch-leaves : (reply : Option ℕ) (e : EngineView) (old new : SideView) (lane : Lane) (word : ℕ) → lane.open_fetch ≡ true → IsCoupled None reply e old lane →
-    ((r : Request) → mark (old.port (Fetch lane.core)) ≡ Served r → SideTakes (Some word) (Fetch lane.core) r old new) → LeavesFetch word e old new lane.core
-fetch-leaves reply e old new lane word on h takes =
-    let o = fetch_open lane.open_fetch (mark (old.port (Fetch lane.core))) e.fetch on h.fetch in
-    let t = takes (fetch_of o.0) o.1.1 in
-    (o.0, (o.1.0, (t.0 ∙ ap (λ image. slice_index image.code (o.0 / 4)) (sym h.image), t.1.0)))
-
--- An engine and its side, with the word of code in hand.
-pub fetch-taken : (reply : Option ℕ) (e : EngineView) (old new : SideView) (lane : Lane) (word : ℕ) → IsCoupled None reply e old lane → LeavesFetch word e old new lane.core → IsCoupled (Some word) reply e new (record lane { open_fetch = false })
-fetch-taken reply e old new lane word h t = record {
-  core = h.core;
-  image = h.image ∙ sym t.1.1.1.kept.image;
-  cores = h.cores ∙ sym t.1.1.1.kept.cores;
-  sound = h.sound;
-  reaches = along (λ es. ReachesWith reply e es) (t.1.1.1.taken ∙ append-nil old.taken) h.reaches;
-  fetch = ap mark t.1.1.1.port;
-  access = along (λ port. AccessPort lane.open_access port e.access) (access_mark lane.core old new t.1.1.1.other) h.access;
-  fits = along (λ want. FetchFits e.image want (Some word)) t.1.0 t.1.1.0;
-  fetch_hand = refl;
-  access_hand = h.access_hand;
-}
-
--- What is open stays on its port over a clock, and is wanted as before.
-
-fetch-clocked : (fetched : Option ℕ) (is_open : Bool) (port : Mark) (old new : Option ℕ) → InHand fetched is_open → (fetched ≡ None → (addr : ℕ) → old ≡ Some addr → new ≡ Some addr) → FetchPort is_open port old → FetchPort is_open port new
-fetch-clocked fetched false port old new hand kept h = h
-fetch-clocked None true port None new hand kept h = absurd h
-fetch-clocked None true port (Some addr) new hand kept h = along (λ want. FetchPort true port want) (kept refl addr refl) h
-fetch-clocked (Some word) true port old new hand kept h = cc
-
-access-clocked : (reply : Option ℕ) (is_open : Bool) (port : Mark) (old new : Option Request) → InHand reply is_open → (reply ≡ None → (r : Request) → old ≡ Some r → new ≡ Some r) → AccessPort is_open port old → AccessPort is_open port new
-access-clocked reply false port old new hand kept h = h
-access-clocked None true port None new hand kept h = absurd h
-access-clocked None true port (Some r) new hand kept h = along (λ want. AccessPort true port want) (kept refl r refl) h
-access-clocked (Some word) true port old new hand kept h = cc
-
--- An engine that was clocked with what was taken goes on where its side is.
-pub clocked : (fetched reply : Option ℕ) (result : Progress) (old new : EngineView) (s : SideView) (lane : Lane) → IsCoupled fetched reply old s lane → IsSound new → Clocks fetched reply result old new → IsCoupled None None new s lane
-clocked fetched reply result old new s lane h sound k = record {
-  core = k.kept.core ∙ h.core;
-  image = k.kept.image ∙ h.image;
-  cores = k.kept.cores ∙ h.cores;
-  sound = sound;
-  reaches = reaches-acts reply result old new s.taken h.sound k.kept k.acts h.reaches;
-  fetch = fetch-clocked fetched lane.open_fetch (mark (s.port (Fetch lane.core))) old.fetch new.fetch h.fetch_hand k.fetch h.fetch;
-  access = access-clocked reply lane.open_access (mark (s.port (Access lane.core))) old.access new.access h.access_hand k.access h.access;
-  fits = tt;
-  fetch_hand = tt;
-  access_hand = tt;
-}
+-- The end of a core.
 
 -- At a stop no access is open.
-pub open-lives : (e : EngineView) (s : SideView) (lane : Lane) → lane.open_access ≡ true → IsCoupled None None e s lane → StopsWhereDead e → e.is_live ≡ true
-open-lives e s lane on h dead =
-    let o = access_open lane.open_access (mark (s.port (Access lane.core))) e.access on h.access in
-    let no_stop = request-no_stop e.image e.executed e.state o.0 (h.sound.access_next o.0 o.1.0) in
+pub open-lives : (e : EngineView) (s : SideView) (lane : Lane) → IsCoupled e s lane → StopsWhereDead e → lane.open_access ≡ true → e.is_live ≡ true
+open-lives e s lane h dead on =
+    let r = open-wants lane.open_access (mark (s.port (Access lane.core))) e.access on h.access in
+    let no_stop = request-no_stop e.image e.executed e.state r.0 (h.sound.access_next r.0 r.1) in
     elim (cases_Bool e.is_live) as (λ _. e.is_live ≡ true) [ inl l ↦ l | inr d ↦ (let stop_is = (dead d).1 in cc) ]
-
--- The end of an access: an engine that was drained with what became of it.
-half : (reply : Option ℕ) (more : List Entry) (e f : EngineView) (old new : SideView) (lane : Lane) → IsCoupled None None e old lane →
-    SideLeaves (Access lane.core) Closed more old new → ReachesWith reply e new.taken → Drains reply e f → IsHalfFinished f new (record lane { open_access = false })
-half reply more e f old new lane h t reaches d = record {
-  core_is = d.kept.core ∙ h.core;
-  image = d.kept.image ∙ (h.image ∙ sym t.kept.image);
-  cores = d.kept.cores ∙ (h.cores ∙ sym t.kept.cores);
-  reaches = reaches-ends reply e f new.taken h.sound d.kept d.ends reaches;
-  fetch = fetch-clocked None lane.open_fetch (mark (new.port (Fetch lane.core))) e.fetch f.fetch tt (λ _ addr want. d.fetch addr want)
-      (along (λ port. FetchPort lane.open_fetch port e.fetch) (fetch_mark lane.core old new t.other) h.fetch);
-  access = along (λ port. IsQuiet (mark port)) t.port tt;
-}
-
--- An access that wasn't done is given up.
-pub half-withdrawn : (e f : EngineView) (old new : SideView) (lane : Lane) → IsCoupled None None e old lane → SideLeaves (Access lane.core) Closed [] old new → Drains None e f → IsHalfFinished f new (record lane { open_access = false })
-half-withdrawn e f old new lane h t d = half None [] e f old new lane h t (along (λ es. Reaches e es) (t.taken ∙ append-nil old.taken) h.reaches) d
-
--- An access that was done is executed.
-pub half-answered : (e f : EngineView) (old new : SideView) (lane : Lane) (word : ℕ) → IsCoupled None None e old lane → LeavesAccess Closed word e old new lane.core → Drains (Some word) e f → IsHalfFinished f new (record lane { open_access = false })
-half-answered e f old new lane word h t d = half (Some word) _ e f old new lane h t.1.1 (reaches-ahead Closed word e old new lane h t) d
-
--- The fetch is given up, whatever came.
-pub fetch-closed : (result : Withdrawal) (e : EngineView) (old new : SideView) (lane : Lane) → lane.open_fetch ≡ true → IsHalfFinished e old lane →
-    ((r : Request) → Holds (mark (old.port (Fetch lane.core))) r → SideWithdraws result (Fetch lane.core) r old new) → SideLeaves (Fetch lane.core) Closed [] old new
-fetch-closed result e old new lane on h withdraws =
-    let o = fetch-holds lane.open_fetch (mark (old.port (Fetch lane.core))) e.fetch on h.fetch in leaves result o.0 (withdraws o.0 o.1)
   where
-    leaves : (result : Withdrawal) (r : Request) → SideWithdraws result (Fetch lane.core) r old new → SideLeaves (Fetch lane.core) Closed [] old new
-    leaves withdrawal.Withdrawn r h = h.0
-    leaves (withdrawal.Answered word) r h = h.0
+    open-wants : (is_open : Bool) (port : Mark) (want : Option Request) → is_open ≡ true → PortHolds is_open port want → (r : Request) × (want ≡ Some r)
+    open-wants true port None on h = absurd h
+    open-wants true port (Some r) on h = (r, refl)
+    open-wants false port want on h = cc
 
--- A core whose accesses have ended ends with its fetch.
-pub finished-fetch : (e : EngineView) (old new : SideView) (lane : Lane) → IsHalfFinished e old lane → SideLeaves (Fetch lane.core) Closed [] old new → IsFinished e new lane.core
-finished-fetch e old new lane h t = record {
-  core_is = h.core_is;
-  image = h.image ∙ sym t.kept.image;
-  cores = h.cores ∙ sym t.kept.cores;
-  reaches = along (λ es. Reaches e es) (t.taken ∙ append-nil old.taken) h.reaches;
-  fetch = along (λ port. IsQuiet (mark port)) t.port tt;
-  access = along (λ port. IsQuiet port) (access_mark lane.core old new t.other) h.access;
-}
+-- What became of a port that was seen before.
+was-before : (answer : Withdrawal) (r : Request) (before state : PortState) → Evolves before state → WasOn state r answer → WasOn before r answer
+was-before withdrawal.Withdrawn r before state (inl e) h = subst (λ (s : PortState). IsUnanswered s) e h
+was-before withdrawal.Withdrawn r before state (inr s) h = absurd (subst (λ (s : PortState). IsUnanswered s) s.1.1.1 h)
+was-before (withdrawal.Answered word) r before state e h = evolves-twice e h
 
--- The pace of a cycle.
+-- Behind the end of its access a core's fetch is open as it was.
+pub fetch-held : (e : EngineView) (lane : Lane) (access : Withdrawal) (s0 s1 : SideView) → IsCoupled e s0 lane → Closes (Access lane.core) lane.open_access e.access access s0 s1
+    → PortHolds lane.open_fetch (mark (s1.port (Fetch lane.core))) (option_map fetch_of e.fetch)
+fetch-held e lane access s0 s1 coupled a =
+    along (λ port. PortHolds lane.open_fetch port (option_map fetch_of e.fetch)) (mark-left (Access lane.core) (Fetch lane.core) s0 s1 a.other (λ e. cc) refl) coupled.fetch
 
-fetch_shut : (is_open : Bool) (port : Mark) (want : Option ℕ) → FetchPort is_open port want → want ≡ None → is_open ≡ false
-fetch_shut true port None h none = absurd h
-fetch_shut true port (Some addr) h none = cc
-fetch_shut false port want h none = refl
+module _ (e : EngineView) (lane : Lane) (access fetch : Withdrawal) (s0 s1 s2 : SideView) (coupled : IsCoupled e s0 lane) (a : Closes (Access lane.core) lane.open_access e.access access s0 s1)
+    (b : Closes (Fetch lane.core) lane.open_fetch (option_map fetch_of e.fetch) fetch s1 s2) where
+  pub closed-was : lane.open_fetch ≡ true → (addr : ℕ) → e.fetch ≡ Some addr → WasOn (s0.port (Fetch lane.core)) (fetch_of addr) fetch
+  closed-was on addr want = was-before fetch (fetch_of addr) _ _ (a.other.port (Fetch lane.core) (λ e. cc) refl) (b.was on (fetch_of addr) (ap (option_map fetch_of) want))
 
-access_shut : (is_open : Bool) (port : Mark) (want : Option Request) → AccessPort is_open port want → want ≡ None → is_open ≡ false
-access_shut true port None h none = absurd h
-access_shut true port (Some r) h none = cc
-access_shut false port want h none = refl
+  pub closed-taken : s2.taken ≡ s0.taken ++ executed_by e.core e.access (late_reply lane.open_access access)
+  closed-taken = b.taken ∙ (append-nil s1.taken ∙ (a.taken ∙ ap (λ core. s0.taken ++ executed_by core e.access (late_reply lane.open_access access)) (sym coupled.core)))
 
--- What gets no answer stays open.
-pub stays_open : {was is : Bool} (given : Option ℕ) → was ≡ true → IfNone given (is ≡ was) → given ≡ None → is ≡ true
-stays_open None on same none = same ∙ on
-stays_open (Some word) on same none = cc
+  pub closed-asks : (q : Port) → core_of q ≡ lane.core → s2.asks_left q ≡ s0.asks_left q
+  closed-asks (Fetch core) same = along (λ core. s2.asks_left (Fetch core) ≡ s0.asks_left (Fetch core)) same (b.asks ∙ a.other.asks (Fetch lane.core) (λ e. cc) refl)
+  closed-asks (Access core) same = along (λ core. s2.asks_left (Access core) ≡ s0.asks_left (Access core)) same (b.other.asks (Access lane.core) (λ e. cc) refl ∙ a.asks)
 
--- A want that isn't met is open on, with one clock less; another one has the bound.
-left : {W : Type 0} (want : Option W) (given : Option ℕ) (is_open : Bool) (patience bound old : ℕ) → (want ≡ None → is_open ≡ false) → InHand given is_open → ((x : W) → want ≡ Some x → given ≡ None → is_open ≡ true) → (is_open ≡ true → patience + 1 ≤ old) →
-    IsLeft want given bound old (wait_left is_open patience bound)
-left None given is_open patience bound old shut hand opened waits = rw (shut refl) (omega arith)
-left (Some x) None is_open patience bound old shut hand opened waits = rw (opened x refl refl) (waits (opened x refl refl))
-left (Some x) (Some word) is_open patience bound old shut hand opened waits = rw hand (omega arith)
+runs-ends : (reply : Option ℕ) (e f : EngineView) (es : List Entry) → IsSound e → Drains reply e f → ReplyFits e.access reply → RunsAlone e es → RunsAlone f (es ++ executed_by e.core e.access reply)
+runs-ends None e f es sound d fits h = runs-none e f es (runs-rests e f es d.kept d.ends h)
+runs-ends (Some word) e f es sound d fits h = runs-finishes e.access word e f es refl sound d.kept d.ends fits h
 
--- A cycle keeps the pace.
-pub cycle-paces : (fetched reply : Option ℕ) (e : EngineView) (old new : SideView) (before after : Lane) (fetch access : Mark) (clocks : ℕ) (stamps : List Stamp) →
-    FetchPort after.open_fetch fetch e.fetch → AccessPort after.open_access access e.access → InHand fetched after.open_fetch → InHand reply after.open_access →
-    ((addr : ℕ) → e.fetch ≡ Some addr → fetched ≡ None → after.open_fetch ≡ true) → ((r : Request) → e.access ≡ Some r → reply ≡ None → after.open_access ≡ true) →
-    after.core ≡ before.core → new.bound ≡ old.bound → WaitsLess 1 old new before after → IsTrue old.tells_distances →
-    Paces fetched reply e (pace_of old before clocks stamps) (pace_of new after (clocks + 1) (stamps ++ stamped (clocks + 1) (executed_by e.core e.access reply)))
-cycle-paces fetched reply e old new before after fetch access clocks stamps on_fetch on_access fetch_hand access_hand fetch_opened access_opened core bound waits told = record {
-  bound = bound;
-  clocks = refl;
-  accesses = refl;
-  drained = refl;
-  fetch = rw (core, bound) (left e.fetch fetched after.open_fetch _ old.bound _ (fetch_shut after.open_fetch fetch e.fetch on_fetch) fetch_hand fetch_opened (waits.fetch told));
-  access = rw (core, bound) (left e.access reply after.open_access _ old.bound _ (access_shut after.open_access access e.access on_access) access_hand access_opened (waits.access told));
-}
+open-fits : (port : Mark) (want : Option Request) (reply : Option ℕ) → PortHolds true port want → ReplyFits want reply
+open-fits port None reply h = absurd h
+open-fits port (Some r) None h = tt
+open-fits port (Some r) (Some word) h = tt
 
--- A clock executes one access at most.
-pub executed-few : (core : ℕ) (want : Option Request) (reply : Option ℕ) → length (executed_by core want reply) ≤ 1
-executed-few core None reply = omega arith
-executed-few core (Some r) None = omega arith
-executed-few core (Some r) (Some word) = omega arith
+-- An engine that was drained with what became of its open access has run as its side tells.
+pub runs-drained : {E : Type 0} (view : E → EngineView) (times : Pace → E → Type 0) (is_open : Bool) (answer : Withdrawal) (e f : E) (port : Mark) (es : List Entry) → IsSound (view e)
+    → IsDrained view times is_open answer e f → PortHolds is_open port (view e).access → RunsAlone (view e) es → RunsAlone (view f) (es ++ executed_by (view e).core (view e).access (late_reply is_open answer))
+runs-drained view times true answer e f port es sound d on h = runs-ends (found_by answer) (view e) (view f) es sound d.0 (open-fits port (view e).access (found_by answer) on) h
+runs-drained view times false answer e f port es sound d on h = runs-none (view e) (view f) es (along (λ f. RunsAlone (view f) es) d h)

@@ -1,9 +1,15 @@
+pub mod LeadLaws
+pub mod CycleLaws
 pub mod LaneLemmas
 pub mod PlainLemmas
 pub mod OwnLemmas
 pub mod SerialLemmas
 pub mod StampLemmas
+pub mod EndLaws
+pub mod DoneLaws
 pub mod TurnLemmas
+pub mod ServedLemmas
 pub mod RoundLemmas
 pub mod RunLemmas
+pub mod PlainEndLaws
 pub mod RunLaws

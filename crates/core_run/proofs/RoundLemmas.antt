@@ -1,24 +1,22 @@
 -- A round: the cores before a place have had their turn, those from it on have not.
 use Rattle.std.proofs.Common.{◌≡◌, ◌≢◌, ℕ, ◌+◌, ◌<◌, ◌≤◌, inl, inr, Some, List, [], ◌++◌, length, refl, ap, sym, ◌∙◌, subst, arith}
-use Rattle.std.specs.Prelude.{nat_lt, if◌then◌else◌, Option, slice_get, slice_set}
-use Rattle.std.proofs.lemmas.Bool.{cases_eq, cases_lt, lt-ltb, le-ltb}
+use Rattle.std.specs.Prelude.{nat_lt, if◌then◌else◌, ◌==◌, Option, slice_get, slice_set}
+use Rattle.std.proofs.lemmas.Bool.{cases_eq, cases_lt, lt-ltb, le-ltb, eq-eqb, ne_eqb}
 use Rattle.std.proofs.lemmas.Option.{same_Some, slice_get_within}
-use Rattle.image_file.specs.Value.{ImageValue}
-use Rattle.access_log.specs.declared.Entry.{Entry}
 use Rattle.access_log.specs.declared.Item.{Item}
-use Rattle.access_log.specs.Stamps.{Stamp, stamped, own_stamps}
+use Rattle.access_log.specs.Stamps.{stamped, own_stamps}
 use Rattle.access_log.proofs.MergeLaws.{slice_get-set, slice_get-set_other}
 use Rattle.timetable.specs.declared.End.{End}
-use Rattle.mem_port.specs.Memory.{MemoryView, IsAtOnce, Keeps}
+use Rattle.mem_port.specs.Memory.{MemoryView, IsFresh, IsAtOnce}
 use Rattle.mem_port.specs.Engine.{EngineView}
-use Rattle.mem_port.specs.Pace.{Pace}
+use Rattle.mem_port.specs.Pace.{Pace, IsFirstPace}
 use Rattle.mem_port.specs.Side.{LeavesOthers}
 use Rattle.core_run.specs.declared.lane.Lane.{Lane}
-use Rattle.core_run.specs.Lanes.{at_once}
-use Rattle.core_run.specs.Serial.{SeatAt, IsStartSeat, IsPunctual, AddsOwn, AreInTurns}
+use Rattle.core_run.specs.Serial.{SeatAt, IsStartSeat, IsServedAt, Receives, AreReceived, AreServed}
 use Rattle.core_run.specs.declared.serial.Seat.{Seat}
-use Rattle.core_run.proofs.SerialLemmas.{seat-kept}
-use Rattle.core_run.proofs.StampLemmas.{own-turn, own-other, after-turn}
+use Rattle.core_run.proofs.SerialLemmas.{seat-kept, served-kept, served-start, first_pace, first-pace}
+use Rattle.core_run.proofs.StampLemmas.{own-turn, own-other, after-turn, after-round, in-turns-start}
+use Rattle.core_run.proofs.TurnLemmas.{once-along}
 
 -- How many turns a core has had, where a round has come to a place.
 abbrev pub turns : ℕ → ℕ → ℕ → ℕ
@@ -42,8 +40,15 @@ pub at-own : {core rounds budget cycles : ℕ} {m : MemoryView} {e : EngineView}
     → SeatAt lane.core rounds budget m e lane end cycles
 at-own h = record { lane_is = refl; holds = h.holds }
 
-pub once-kept : {old new : MemoryView} → Keeps old new → IsAtOnce old → IsAtOnce new
-once-kept kept once = record { told = kept.tells_distances ∙ once.told; bound = kept.bound ∙ once.bound }
+-- A pace for a core, in place of the one that it had.
+abbrev pub with_pace : (ℕ → Pace) → ℕ → Pace → ℕ → Pace
+with_pace paces place pace core = if core == place then pace else paces core
+
+pace-here : (paces : ℕ → Pace) (place : ℕ) (pace : Pace) → with_pace paces place pace place ≡ pace
+pace-here paces place pace = rw (eq-eqb place place refl) refl
+
+pace-other : (paces : ℕ → Pace) (place core : ℕ) (pace : Pace) → core ≢ place → with_pace paces place pace core ≡ paces core
+pace-other paces place core pace ne = rw (ne_eqb core place ne) refl
 
 -- What holds of each element, after one was set.
 set-each : {X : Type 0} (P Q : ℕ → X → Type 0) (xs : List X) (i : ℕ) (y : X) → i < length xs → Q i y → ((k : ℕ) (x : X) → k ≢ i → P k x → Q k x)
@@ -87,37 +92,58 @@ module _ {E : Type 0} (view : E → EngineView) where
       let within = slice_get_within seats core s got in
       subst (λ (n : ℕ). SeatAt core n budget m (view s.engine) s.lane s.end s.cycles) (turns-had rounds place core (omega arith)) (all core s got)
 
-  module _ (timed : Pace → E → Type 0) where
-    -- What all engines tell of their times, where their accesses were received so.
-    abbrev pub AreTimed : List Stamp → List (Seat E) → Type 0
-    AreTimed stamps seats =
-        (core : ℕ) (s : Seat E) → slice_get seats core ≡ Some s
-        → IsPunctual (view s.engine) s.lane s.end × timed (at_once s.cycles (own_stamps stamps core)) s.engine
-
+  module _ (times : Pace → E → Type 0) where
     -- At the start nothing was accessed.
-    pub timed-start : (image : ImageValue) (cores budget : ℕ) (seats : List (Seat E))
-        → ((core : ℕ) (s : Seat E) → slice_get seats core ≡ Some s → IsStartSeat image core cores budget (view s.engine) s.lane s.end s.cycles)
-        → ((core : ℕ) (s : Seat E) → slice_get seats core ≡ Some s → timed (at_once 0 []) s.engine) → AreTimed [] seats
-    timed-start image cores budget seats starts tells core s got =
-        let h = starts core s got in
-        (record { closed = h.closed; live = rw h.no_end h.engine.live }, rw h.no_cycle (tells core s got))
+    pub served-first : (m : MemoryView) (budget : ℕ) (seats : List (Seat E)) → IsFresh m.image m.cores budget m.caches m
+        → ((core : ℕ) (s : Seat E) → slice_get seats core ≡ Some s → IsStartSeat m.image core m.cores budget (view s.engine) s.lane s.end s.cycles)
+        → ((core : ℕ) (s : Seat E) → slice_get seats core ≡ Some s → (pace : Pace) → IsFirstPace pace → times pace s.engine) → AreServed view times 0 0 m seats (λ core. first_pace m)
+    served-first m budget seats fresh starts tells = record {
+      each = λ core s got. served-start view times m s.engine s.lane s.end s.cycles core budget fresh (starts core s got) (tells core s got (first_pace m) (first-pace m));
+      at_once = λ once. ([], (in-turns-start m.history fresh.history, λ core. refl));
+    }
 
-    -- A turn, and what its engine tells behind it.
-    pub timed-turn : (rounds : ℕ) (old new : List Item) (stamps : List Stamp) (seats : List (Seat E)) (place turn : ℕ) (s : Seat E) → place < length seats
-        → turn ≡ place → AreInTurns rounds place old stamps → AreTimed stamps seats
-        → ((more : List Entry) × (AddsOwn turn more old new
-        × (IsPunctual (view s.engine) s.lane s.end × timed (at_once s.cycles (own_stamps stamps place ++ stamped (rounds + 1) more)) s.engine)))
-        → (after : List Stamp) × (AreInTurns rounds (place + 1) new after × AreTimed after (slice_set seats place s))
-    timed-turn rounds old new stamps seats place turn s inside is order all f =
-        let more = f.0 in
-        let adds = subst (λ (core : ℕ). AddsOwn core more old new) is f.1.0 in
-        let after = stamps ++ stamped (rounds + 1) more in
-        let here : timed (at_once s.cycles (own_stamps after place)) s.engine = rw (own-turn (rounds + 1) place stamps more adds.own) f.1.1.1 in (
+    -- What a turn adds to what was received.
+    received-turn : (rounds place : ℕ) (old new : List Item) (paces : ℕ → Pace) (q : Pace) → Receives place (rounds + 1) old new (paces place) q → AreReceived rounds place old paces
+        → AreReceived rounds (place + 1) new (with_pace paces place q)
+    received-turn rounds place old new paces q h received =
+        let stamps = received.0 in
+        let after = stamps ++ stamped (rounds + 1) h.more in (
           after,
           (
-            after-turn rounds place old new stamps more adds order,
-            set-each (λ core s. IsPunctual (view s.engine) s.lane s.end × timed (at_once s.cycles (own_stamps stamps core)) s.engine)
-                (λ core s. IsPunctual (view s.engine) s.lane s.end × timed (at_once s.cycles (own_stamps after core)) s.engine) seats place s inside (f.1.1.0, here)
-                (λ core s ne h. (h.0, rw (own-other (rounds + 1) place core stamps more ne adds.own) h.1)) all,
+            after-turn rounds place old new stamps h.more h.adds received.1.0,
+            λ core.
+                elim (cases_eq core place) as (λ _. (with_pace paces place q core).service.accesses ≡ own_stamps after core) [
+                  | inl is ↦
+                      (let A : ℕ → Type 0 = λ n. (with_pace paces place q n).service.accesses ≡ own_stamps after n in
+                      subst A (sym is) (rw (pace-here paces place q, own-turn (rounds + 1) place stamps h.more h.adds.own, sym (received.1.1 place)) h.received))
+                  | inr ne ↦ rw (pace-other paces place core q ne, own-other (rounds + 1) place core stamps h.more ne h.adds.own) (received.1.1 core)
+                ],
           ),
         )
+
+    -- A turn, and how all engines were served behind it.
+    pub served-turn : (rounds budget : ℕ) (old new : MemoryView) (seats : List (Seat E)) (place turn : ℕ) (s : Seat E) (paces : ℕ → Pace) → place < length seats → turn ≡ place
+        → LeavesOthers turn old new → AreSeated (turns rounds place) budget old seats → AreServed view times rounds place old seats paces
+        → ((q : Pace) × (IsServedAt view times new s.engine s.lane s.end s.cycles q × (IsAtOnce old → Receives turn (rounds + 1) old.history new.history (paces place) q)))
+        → (after : ℕ → Pace) × AreServed view times rounds (place + 1) new (slice_set seats place s) after
+    served-turn rounds budget old new seats place turn s paces inside is left at served h =
+        let q = h.0 in (
+          with_pace paces place q,
+          record {
+            each = set-each (λ core s. (s.lane.core ≡ core) × IsServedAt view times old s.engine s.lane s.end s.cycles (paces core))
+                (λ core s. IsServedAt view times new s.engine s.lane s.end s.cycles (with_pace paces place q core)) seats place s inside
+                (rw (pace-here paces place q) h.1.0)
+                (λ core s ne k. rw (pace-other paces place core q ne) (served-kept turn old new left view times s.engine s.lane s.end s.cycles (paces core) (λ e. ne (sym k.0 ∙ (e ∙ is))) k.1))
+                (λ core s got. ((at core s got).lane_is, served.each core s got));
+            at_once = λ once.
+                (let was = once-along (sym left.kept.tells_distances) (sym left.kept.bound) once in
+                let receives = subst (λ (core : ℕ). Receives core (rounds + 1) old.history new.history (paces place) q) is (h.1.1 was) in
+                received-turn rounds place old.history new.history paces q receives (served.at_once was));
+          },
+        )
+
+    pub served-round : (rounds place : ℕ) (m : MemoryView) (seats : List (Seat E)) (paces : ℕ → Pace) → AreServed view times rounds place m seats paces → AreServed view times (rounds + 1) 0 m seats paces
+    served-round rounds place m seats paces h = record {
+      each = h.each;
+      at_once = λ once. (let r = h.at_once once in (r.0, (after-round rounds place m.history r.0 r.1.0, r.1.1)));
+    }

@@ -1,45 +1,33 @@
--- What the ends of cores whose wants are met at once say of their cycles and their turns.
-use Rattle.std.proofs.Common.{◌≡◌, ◌≢◌, ℕ, zero, suc, ◌+◌, ◌<◌, ◌≤◌, ◌⊎◌, inl, inr, Bool, true, false, List, [], ◌∷◌, ◌++◌, length, refl, ap, sym, ◌∙◌, arith, subst}
+-- What a run of unpipelined cores says of their cycles and their turns, where each answer came as its request was served.
+use Rattle.std.proofs.Common.{◌≡◌, ℕ, zero, suc, ◌+◌, ◌<◌, ◌≤◌, ◌⊎◌, inl, inr, Bool, true, false, List, [], ◌∷◌, ◌++◌, length, refl, ap, sym, ◌∙◌, arith, subst}
 use Rattle.std.specs.Prelude.{Some, None, map, slice_get, ◌==◌}
 use Rattle.std.specs.List.{AllByRecursion}
 use Rattle.std.proofs.lemmas.Bool.{cases_lt, eq-eqb, ne_eqb}
-use Rattle.std.proofs.lemmas.Option.{same_Some}
+use Rattle.std.proofs.lemmas.Option.{same_Some, slice_get_within}
 use Rattle.std.proofs.lemmas.List.Elements.{filter-append}
 use Rattle.std.proofs.lemmas.List.{append-nil, length-append, length-map}
 use Rattle.kmp_base.specs.declared.setup.Setup.{Setup}
-use Rattle.mips_isa.specs.declared.Stop.{Stop}
-use Rattle.mips_isa.specs.declared.CoreState.{CoreState}
-use Rattle.mips_isa.specs.declared.Next.{Next}
-use Rattle.mips_isa.specs.declared.Next.TheVariants.{Stops, Asks, Goes}
-use Rattle.mips_isa.specs.Steps.{next_of}
-use Rattle.image_file.specs.Value.{ImageValue, memory_bytes}
-use Rattle.access_log.proofs.StampLaws.{own-stamps}
-use Rattle.access_log.specs.declared.request.Request.{Request}
+use Rattle.image_file.specs.Value.{ImageValue}
 use Rattle.access_log.specs.declared.Entry.{Entry}
 use Rattle.access_log.specs.declared.Item.{Item}
 use Rattle.access_log.specs.Items.{entries}
-use Rattle.access_log.specs.Requests.{access_of}
 use Rattle.access_log.specs.Replay.{own}
-use Rattle.access_log.proofs.MergeLaws.{slice_get_some}
 use Rattle.access_log.specs.Stamps.{Stamp, own_stamps, IsRising}
-use Rattle.timetable.specs.declared.End.{End}
-use Rattle.timetable.specs.declared.End.TheVariants as ends
+use Rattle.access_log.proofs.MergeLaws.{slice_get_some}
+use Rattle.access_log.proofs.StampLaws.{own-stamps}
 use Rattle.timetable.specs.declared.CoreEnd.{CoreEnd}
 use Rattle.timetable.specs.Outcome.{OutcomeValue}
 use Rattle.timetable.specs.Right.{IsRight}
-use Rattle.timetable.specs.Cycles.{plain_cycles, EndsRightly}
 use Rattle.timetable.specs.Turns.{in_cycles, IsInTurns}
-use Rattle.mem_port.specs.Loaded.{next_in, stop_in, stop, request}
-use Rattle.mem_port.proofs.LoadedLaws.{request-asks}
 use Rattle.mem_port.specs.Engine.{EngineView}
-use Rattle.mem_port.specs.Memory.{MemoryView, IsFresh}
-use Rattle.core_run.specs.Lanes.{at_once, IsStarted, IsClosed}
-use Rattle.core_run.specs.PlainView.{is_live, under_way, wanted_access, in_own_cycles, plain_view, IsUnstalled, plain_timed}
-use Rattle.core_run.specs.Serial.{EndFits, goes_on, AreInTurns, IsRun, IsEngineOf, IsStartSeat}
+use Rattle.mem_port.specs.Memory.{MemoryView, IsFresh, IsAtOnce}
+use Rattle.mem_port.specs.Pace.{Pace, IsFirstPace}
+use Rattle.core_run.specs.Lanes.{IsStarted, IsClosed}
+use Rattle.core_run.specs.PlainView.{in_own_cycles, plain_view, IsPlainPace}
+use Rattle.core_run.specs.Serial.{AreInTurns, IsRun, IsEngineOf, IsStartSeat, IsServedRun}
 use Rattle.core_run.specs.declared.plain.Plain.{Plain}
 use Rattle.core_run.specs.declared.serial.Seat.{Seat}
-use Rattle.core_run.specs.declared.plain.Phase.{Phase}
-use Rattle.core_run.specs.declared.plain.Phase.TheVariants as phases
+use Rattle.core_run.proofs.PlainEndLaws.{IsPromptEnd, prompt-end}
 
 abbrev entry_in : Stamp → Entry
 entry_in stamp = stamp.entry
@@ -103,81 +91,25 @@ in-turns cores rounds turn items stamps h within own_cycles =
     let same = in-cycles [] stamps (λ core. own-cycles-of cores stamps inside own_cycles core (cases_lt core cores)) in
     subst (λ order. IsRising (in_cycles [] order)) h.are (subst IsRising same h.rising)
 
-stops-case : (next : Next) (why : Stop) → stop_in next ≡ Some why → next ≡ Stops why
-stops-case (Stops why) other h = ap Stops (same_Some _ _ h)
-stops-case (Asks access) other h = cc
-stops-case (Goes state) other h = cc
-
-next-stops : (image : ImageValue) (state : CoreState) (why : Stop) → stop image state ≡ Some why → next_of image.code (memory_bytes image) state ≡ Stops why
-unfolding stop next_in
-next-stops image state why h = stops-case (next_of image.code (memory_bytes image) state) why h
-
-next-asks : (image : ImageValue) (executed : ℕ) (state : CoreState) (r : Request) → request image executed state ≡ Some r → next_of image.code (memory_bytes image) state ≡ Asks (access_of r)
-unfolding next_in
-next-asks image executed state r h = (request-asks image executed state r h).0
-
-some-cycle : (next : Next) → 1 ≤ plain_cycles next
-some-cycle (Stops why) = omega arith
-some-cycle (Asks access) = omega arith
-some-cycle (Goes state) = omega arith
-
--- The end of a core that used these clocks.
-ends-rightly : (image : ImageValue) (state : CoreState) (end : End) (phase : Phase) (budget cycles executed used : ℕ) → is_live phase ≡ goes_on (Some end) → phase ≢ phases.Drained
-    → cycles ≡ used + under_way phase → ((r : Request) → wanted_access phase ≡ Some r → request image executed state ≡ Some r) → EndFits end budget cycles (stop image state)
-    → EndsRightly end budget cycles used (next_of image.code (memory_bytes image) state)
-ends-rightly image state (ends.Stopped why) phases.Stopped budget cycles executed used live not_drained took asks fits = (next-stops image state why fits.0, took, fits.1)
-ends-rightly image state (ends.Stopped why) phases.Begin budget cycles executed used live not_drained took asks fits = cc
-ends-rightly image state (ends.Stopped why) (phases.Access r) budget cycles executed used live not_drained took asks fits = cc
-ends-rightly image state (ends.Stopped why) phases.Drained budget cycles executed used live not_drained took asks fits = absurd (not_drained refl)
-ends-rightly image state ends.Spent phases.Begin budget cycles executed used live not_drained took asks fits =
-    (fits, omega (arith, fits), omega (arith, fits, some-cycle (next_of image.code (memory_bytes image) state)))
-ends-rightly image state ends.Spent (phases.Access r) budget cycles executed used live not_drained took asks fits =
-    let two : plain_cycles (next_of image.code (memory_bytes image) state) ≡ 2 = ap plain_cycles (next-asks image executed state r (asks r refl)) in
-    (fits, omega (arith, fits), omega (arith, fits, two))
-ends-rightly image state ends.Spent phases.Stopped budget cycles executed used live not_drained took asks fits = cc
-ends-rightly image state ends.Spent phases.Drained budget cycles executed used live not_drained took asks fits = absurd (not_drained refl)
-
--- What a core whose wants were met at once, with these accesses, says of its end.
-pub record IsUnstalledEnd (image : ImageValue) (stamps : List Stamp) (ended : CoreEnd) : Type 0 where
-  pub cycles : stamps ≡ in_own_cycles 0 (map entry_in stamps)
-  pub rightly : (budget : ℕ) → EndFits ended.end budget ended.cycles (stop image ended.state)
-      → EndsRightly ended.end budget ended.cycles (ended.retired + length stamps) (next_of image.code (memory_bytes image) ended.state)
-
-module _ (image own_image : ImageValue) (core cores own_core own_cores : ℕ) (ended : CoreEnd) (state : CoreState) (executed clocks_left : ℕ) (stamps : List Stamp) where
-  abbrev seen : Phase → EngineView
-  seen phase = plain_view own_image own_core own_cores state executed phase clocks_left
-
-  unstalled-end-of : (phase : Phase) → phase ≢ phases.Drained → IsEngineOf image core cores ended (seen phase) → IsUnstalled (at_once ended.cycles stamps) (seen phase) phase → IsUnstalledEnd image stamps ended
-  unstalled-end-of phase not_drained is unstalled =
-      let used : ended.cycles ≡ ended.retired + length stamps + under_way phase = unstalled.clocks ∙ rw is.retired refl in
-      let asks : (r : Request) → wanted_access phase ≡ Some r → request image executed ended.state ≡ Some r = rw (is.image_is, is.state) at unstalled.sound.access_next in
-      record {
-        cycles = unstalled.cycles;
-        rightly = λ budget fits. ends-rightly image ended.state ended.end phase budget ended.cycles executed (ended.retired + length stamps) is.live not_drained used asks fits;
-      }
-
-  -- The end of a core, from its engine.
-  unstalled-end : (phase : Phase) → IsEngineOf image core cores ended (seen phase) → plain_timed (at_once ended.cycles stamps) (seen phase) phase → IsUnstalledEnd image stamps ended
-  unstalled-end phases.Begin is timed = unstalled-end-of phases.Begin (λ e. cc) is (timed refl)
-  unstalled-end (phases.Access r) is timed = unstalled-end-of (phases.Access r) (λ e. cc) is (timed refl)
-  unstalled-end phases.Stopped is timed = unstalled-end-of phases.Stopped (λ e. cc) is (timed refl)
-  unstalled-end phases.Drained is timed = cc
-
 abbrev pub view_of : Plain → EngineView
 view_of e = plain_view e.image.now e.core e.cores e.state e.executed e.phase e.clocks_left
+
+abbrev pub times_of : Pace → Plain → Type 0
+times_of pace e = IsPlainPace pace (view_of e) e.phase
 
 -- The seat of an unpipelined core before its first turn.
 pub record IsFirstSeat (image : ImageValue) (cores core : ℕ) (s : Seat Plain) : Type 0 where
   pub seat : (budget : ℕ) → budget ≤ 4294967295 → IsStartSeat image core cores budget (view_of s.engine) s.lane s.end s.cycles
-  pub timed : plain_timed (at_once 0 []) (view_of s.engine) s.engine.phase
+  pub timed : (pace : Pace) → IsFirstPace pace → times_of pace s.engine
 
 -- A seat as it was made with its engine.
-pub first-seat : (image : ImageValue) (cores core : ℕ) (engine : Plain) (s : Seat Plain) → IsStarted image core cores (view_of engine) → engine.clocks_left ≡ 4294967295 → plain_timed (at_once 0 []) (view_of engine) engine.phase
+pub first-seat : (image : ImageValue) (cores core : ℕ) (engine : Plain) (s : Seat Plain) → IsStarted image core cores (view_of engine) → engine.clocks_left ≡ 4294967295
+    → ((pace : Pace) → IsFirstPace pace → times_of pace engine)
     → s.engine ≡ engine → s.lane.core ≡ core → IsClosed s.lane → s.end ≡ None → s.cycles ≡ 0 → IsFirstSeat image cores core s
 first-seat image cores core engine s started clocks timed is lane_is closed no_end no_cycle = record {
   seat = λ budget few.
       record { engine = rw is started; clocks = rw (is, clocks) few; lane_is = lane_is; closed = closed; no_end = no_end; no_cycle = no_cycle };
-  timed = rw is timed;
+  timed = λ pace first. rw is (timed pace first);
 }
 
 -- What holds of each element, and of one more behind them, holds of each.
@@ -188,41 +120,48 @@ all-push P [] new all here (suc i) x got = cc
 all-push P (first ∷ xs) new all here zero x got = all zero x got
 all-push P (first ∷ xs) new all here (suc i) x got = all-push (λ k. P (suc k)) xs new (λ k. all (suc k)) here i x got
 
--- Each core ended with an engine whose wants were met at once.
-abbrev pub EndsUnstalled : ImageValue → ℕ → List Stamp → OutcomeValue → Type 0
-EndsUnstalled image cores stamps outcome = (core : ℕ) (ended : CoreEnd) → slice_get outcome.cores core ≡ Some ended
-    → (e : Plain) × (IsEngineOf image core cores ended (view_of e) × ((ended.rows.rows ≡ []) × plain_timed (at_once ended.cycles (own_stamps stamps core)) (view_of e) e.phase))
+-- Each core ended with an engine that was served at its pace, without a wait.
+abbrev pub EndsPrompt : ImageValue → ℕ → OutcomeValue → (ℕ → Pace) → Type 0
+EndsPrompt image cores outcome paces = (core : ℕ) (ended : CoreEnd) → slice_get outcome.cores core ≡ Some ended
+    → ((paces core).is_drained ≡ false) × ((e : Plain) × (IsEngineOf image core cores (Some 0) ended (paces core) (view_of e)
+    × ((ended.rows.rows ≡ []) × (times_of (paces core) e × (map entry_in (paces core).service.accesses ≡ own (entries outcome.items) core)))))
 
-module _ (setup : Setup) (image : ImageValue) (outcome : OutcomeValue) (rounds turn : ℕ) (stamps : List Stamp)
-    (run : IsRun image setup.cores setup.budget None outcome) (turns : AreInTurns rounds turn outcome.items stamps) (each : EndsUnstalled image setup.cores stamps outcome) where
-  end-at : (core : ℕ) (ended : CoreEnd) → slice_get outcome.cores core ≡ Some ended → IsUnstalledEnd image (own_stamps stamps core) ended
+module _ (setup : Setup) (image : ImageValue) (outcome : OutcomeValue) (paces : ℕ → Pace) (run : IsRun image setup.cores setup.budget None outcome) (each : EndsPrompt image setup.cores outcome paces) where
+  end-at : (core : ℕ) (ended : CoreEnd) → slice_get outcome.cores core ≡ Some ended → IsPromptEnd image (paces core).service.accesses ended
   end-at core ended got =
       let f = each core ended got in
-      unstalled-end image f.0.image.now core setup.cores f.0.core f.0.cores ended f.0.state f.0.executed f.0.clocks_left (own_stamps stamps core) f.0.phase f.1.0 f.1.1.1
+      let e = f.1.0 in
+      prompt-end image e.image.now core setup.cores e.core e.cores ended (paces core) e.state e.executed e.clocks_left e.phase f.1.1.0 f.1.1.1.1.0 f.0
 
-  run-right : IsRight setup image outcome
+  -- Such a run is right.
+  pub run-right : IsRight setup image outcome
   run-right = record {
     replays = run.replays;
     ends = λ core ended got.
-        (let count : length (own_stamps stamps core) ≡ length (own (entries outcome.items) core) =
-        sym (length-map (own_stamps stamps core) entry_in) ∙ ap length (sym (own-stamps stamps core)) ∙ ap (λ order. length (own order core)) turns.are in
+        (let accesses = (paces core).service.accesses in
+        let count : length accesses ≡ length (own (entries outcome.items) core) = sym (length-map accesses entry_in) ∙ ap length (each core ended got).1.1.1.1.1 in
         rw (← count) ((end-at core ended got).rightly setup.budget (run.ends core ended got)));
     no_transaction = run.follows;
-    no_rows = λ core ended got. (each core ended got).1.1.0;
+    no_rows = λ core ended got. (each core ended got).1.1.1.0;
   }
 
-  run-turns : IsInTurns (entries outcome.items)
-  run-turns = in-turns setup.cores rounds turn outcome.items stamps turns run.within
-      (λ core in_range. (let some = slice_get_some outcome.cores core (omega (arith, run.count)) in (end-at core some.0 some.1).cycles))
+  run-turns : (stamps : List Stamp) → AreInTurns setup.budget 0 outcome.items stamps → ((core : ℕ) → core < setup.cores → (paces core).service.accesses ≡ own_stamps stamps core)
+      → IsInTurns (entries outcome.items)
+  run-turns stamps turns received = in-turns setup.cores setup.budget 0 outcome.items stamps turns run.within
+      (λ core in_range.
+      (let some = slice_get_some outcome.cores core (omega (arith, run.count)) in
+      subst (λ (own : List Stamp). own ≡ in_own_cycles 0 (map entry_in own)) (received core in_range) (end-at core some.0 some.1).cycles))
 
 -- A run on a memory that was fresh, of the words of its setup.
 pub run-fresh : (image : ImageValue) (cores budget : ℕ) (m : MemoryView) (outcome : OutcomeValue) → IsFresh image cores budget None m → IsRun m.image m.cores budget m.caches outcome → IsRun image cores budget None outcome
 run-fresh image cores budget m outcome fresh run = rw (fresh.image_is, fresh.cores_are, fresh.caches_are) at run
 
--- What a run with stamps is.
-pub run-unstalled : (setup : Setup) (image : ImageValue) (m : MemoryView) (outcome : OutcomeValue) → IsFresh image setup.cores setup.budget None m → IsRun m.image m.cores setup.budget m.caches outcome
-    → ((stamps : List Stamp) × (AreInTurns setup.budget 0 outcome.items stamps × EndsUnstalled m.image m.cores stamps outcome)) → IsRight setup image outcome × IsInTurns (entries outcome.items)
-run-unstalled setup image m outcome fresh run timed =
-    let each = rw (fresh.image_is, fresh.cores_are) at timed.1.1 in
+-- What a run in turns is, on a memory that answers each request as it is served.
+pub run-prompt : (setup : Setup) (image : ImageValue) (m : MemoryView) (outcome : OutcomeValue) (paces : ℕ → Pace) → IsFresh image setup.cores setup.budget None m → IsAtOnce m
+    → IsRun m.image m.cores setup.budget m.caches outcome → IsServedRun view_of (λ e. []) times_of m setup.budget outcome paces → IsRight setup image outcome × IsInTurns (entries outcome.items)
+run-prompt setup image m outcome paces fresh once run served =
+    let at_once = served.at_once once in
     let same = run-fresh image setup.cores setup.budget m outcome fresh run in
-    (run-right setup image outcome setup.budget 0 timed.0 same timed.1.0 each, run-turns setup image outcome setup.budget 0 timed.0 same timed.1.0 each)
+    let each : EndsPrompt image setup.cores outcome paces = λ core ended got.
+    (at_once.waited core (let within = slice_get_within outcome.cores core ended got in omega (arith, within, run.count)), rw (fresh.image_is, fresh.cores_are, once.told, once.bound) at served.ends core ended got) in
+    (run-right setup image outcome paces same each, run-turns setup image outcome paces same each at_once.stamps at_once.turns (λ core within. at_once.received core (rw fresh.cores_are within)))

@@ -1,38 +1,52 @@
 -- The seats of cores: what the turn of one core leaves of another's, and what they are at the start.
-use Rattle.std.proofs.Common.{◌≡◌, ◌≢◌, ℕ, ◌+◌, ◌<◌, ◌≤◌, Some, None, [], refl, ap, sym, ◌∙◌, arith}
-use Rattle.std.specs.Prelude.{Option}
+use Rattle.std.proofs.Common.{◌≡◌, ◌≢◌, ℕ, ◌+◌, ◌<◌, ◌≤◌, inl, inr, Bool, true, false, IsTrue, Some, None, [], refl, ap, sym, ◌∙◌, arith}
+use Rattle.std.specs.Prelude.{Option, if◌then◌else◌}
 use Rattle.image_file.specs.Value.{ImageValue, memory_bytes}
 use Rattle.access_log.proofs.AloneLaws.{comes-start}
 use Rattle.timetable.specs.declared.End.{End}
 use Rattle.mem_port.specs.declared.port.Port.{Port}
 use Rattle.mem_port.specs.declared.port.Port.TheVariants.{Fetch, Access}
-use Rattle.mem_port.specs.Ports.{core_of}
+use Rattle.mem_port.specs.declared.port.PortState.{PortState}
+use Rattle.mem_port.specs.declared.port.PortState.TheVariants.{Free, Asked, Waiting, Answered, Closed}
+use Rattle.mem_port.specs.Ports.{core_of, IsWaiting}
 use Rattle.mem_port.specs.Memory.{MemoryView, IsFresh}
 use Rattle.mem_port.specs.Engine.{EngineView}
-use Rattle.mem_port.specs.Side.{SideView, Unasked, mark, LeavesOthers, side_of}
+use Rattle.mem_port.specs.Pace.{Pace, IsFirstPace, IsLeft, no_service}
+use Rattle.mem_port.specs.Side.{SideView, Evolves, Unasked, mark, LeavesOthers, patience_of, side_of}
 use Rattle.mem_port.proofs.SideLaws.{mark-evolves}
 use Rattle.core_run.specs.declared.lane.Lane.{Lane}
-use Rattle.core_run.specs.Lanes.{Reaches, IsCoupled, IsFinished, IsStarted, IsClosed}
-use Rattle.core_run.specs.Serial.{IsOn, SeatHolds, SeatAt, IsStartSeat}
+use Rattle.core_run.specs.Cycle.{wait_left}
+use Rattle.core_run.specs.Lanes.{RunsAlone, IsCoupled, IsFinished, IsStarted, IsClosed, IsNoTighter}
+use Rattle.core_run.specs.Serial.{IsOn, SeatHolds, SeatAt, IsStartSeat, IsServedAt}
+use Rattle.core_run.proofs.TurnLemmas.{once-along}
+
+-- While other cores go on, no request is put off.
+patience-kept : (old new : PortState) (distance later : ℕ) → Evolves old new → (IsWaiting new → later ≤ distance) → patience_of new later ≤ patience_of old distance
+patience-kept old Free distance later h less = omega arith
+patience-kept old (Asked r) distance later h less = omega arith
+patience-kept old (Waiting r) distance later (inl same) less = rw (sym same) (less tt)
+patience-kept old (Waiting r) distance later (inr h) less = (let is = h.1.1.1 in cc)
+patience-kept old (Answered r word) distance later h less = omega arith
+patience-kept old Closed distance later h less = omega arith
+
+left-kept : (is_open : Bool) (patience later bound bounds left : ℕ) → later ≤ patience → bounds ≡ bound → wait_left is_open patience bound ≤ left → wait_left is_open later bounds ≤ left
+left-kept true patience later bound bounds left less same h = omega arith
+left-kept false patience later bound bounds left less same h = omega arith
 
 -- The turn of a core leaves what holds of another's seat.
 module _ (turn : ℕ) (old new : MemoryView) (left : LeavesOthers turn old new) where
   mark-kept : (core : ℕ) (q : Port) → core ≢ turn → core_of q ≡ core → mark (new.port q) ≡ mark (old.port q)
   mark-kept core q ne is = mark-evolves (old.port q) (new.port q) (left.ports q (λ e. ne (sym is ∙ e)))
 
-  coupled-kept : (e : EngineView) (lane : Lane) → lane.core ≢ turn → IsCoupled None None e (side_of old lane.core) lane
-      → IsCoupled None None e (side_of new lane.core) lane
+  coupled-kept : (e : EngineView) (lane : Lane) → lane.core ≢ turn → IsCoupled e (side_of old lane.core) lane
+      → IsCoupled e (side_of new lane.core) lane
   coupled-kept e lane ne h = record {
     core = h.core;
     image = h.image ∙ sym left.kept.image;
     cores = h.cores ∙ sym left.kept.cores;
     sound = h.sound;
-    reaches = rw (left.taken lane.core ne) h.reaches;
     fetch = rw (mark-kept lane.core (Fetch lane.core) ne refl) h.fetch;
     access = rw (mark-kept lane.core (Access lane.core) ne refl) h.access;
-    fits = h.fits;
-    fetch_hand = h.fetch_hand;
-    access_hand = h.access_hand;
   }
 
   finished-kept : (e : EngineView) (core : ℕ) → core ≢ turn → IsFinished e (side_of old core) core → IsFinished e (side_of new core) core
@@ -40,7 +54,6 @@ module _ (turn : ℕ) (old new : MemoryView) (left : LeavesOthers turn old new) 
     core_is = h.core_is;
     image = h.image ∙ sym left.kept.image;
     cores = h.cores ∙ sym left.kept.cores;
-    reaches = rw (left.taken core ne) h.reaches;
     fetch = rw (mark-kept core (Fetch core) ne refl) h.fetch;
     access = rw (mark-kept core (Access core) ne refl) h.access;
   }
@@ -49,6 +62,7 @@ module _ (turn : ℕ) (old new : MemoryView) (left : LeavesOthers turn old new) 
       → SeatHolds end rounds budget old e lane cycles → SeatHolds end rounds budget new e lane cycles
   holds-kept None rounds budget e lane cycles ne h = record {
     coupled = coupled-kept e lane ne h.coupled;
+    runs = rw (left.taken lane.core ne) h.runs;
     live = h.live;
     count = h.count;
     more = h.more;
@@ -56,7 +70,7 @@ module _ (turn : ℕ) (old new : MemoryView) (left : LeavesOthers turn old new) 
     fetches = rw (left.asks (Fetch lane.core) ne) h.fetches;
     accesses = rw (left.asks (Access lane.core) ne) h.accesses;
   }
-  holds-kept (Some end) rounds budget e lane cycles ne h = record { finished = finished-kept e lane.core ne h.finished; fits = h.fits }
+  holds-kept (Some end) rounds budget e lane cycles ne h = record { finished = finished-kept e lane.core ne h.finished; runs = rw (left.taken lane.core ne) h.runs; fits = h.fits }
 
   pub seat-kept : (core rounds budget : ℕ) (e : EngineView) (lane : Lane) (end : Option End) (cycles : ℕ) → core ≢ turn
       → SeatAt core rounds budget old e lane end cycles → SeatAt core rounds budget new e lane end cycles
@@ -65,26 +79,47 @@ module _ (turn : ℕ) (old new : MemoryView) (left : LeavesOthers turn old new) 
     holds = holds-kept end rounds budget e lane cycles (λ is. ne (sym h.lane_is ∙ is)) h.holds;
   }
 
+  patience-left : (told : IsTrue old.tells_distances) (q : Port) → core_of q ≢ turn → patience_of (new.port q) (new.distance q) ≤ patience_of (old.port q) (old.distance q)
+  patience-left told q ne = patience-kept (old.port q) (new.port q) (old.distance q) (new.distance q) (left.ports q ne) (left.distances told q ne)
+
+  tight-kept : (pace : Pace) (lane : Lane) → lane.core ≢ turn → IsNoTighter pace (side_of old lane.core) lane → IsNoTighter pace (side_of new lane.core) lane
+  tight-kept pace lane ne h =
+      let was = λ (told : IsTrue new.tells_distances). sym left.kept.tells_distances ∙ told in
+      record {
+        bound = rw (left.kept.tells_distances, left.kept.bound) h.bound;
+        fetch = λ told. left-kept lane.open_fetch _ _ old.bound _ pace.fetch_left (patience-left (was told) (Fetch lane.core) ne) left.kept.bound (h.fetch (was told));
+        access = λ told. left-kept lane.open_access _ _ old.bound _ pace.access_left (patience-left (was told) (Access lane.core) ne) left.kept.bound (h.access (was told));
+      }
+
+  -- And how its engine was served.
+  pub served-kept : {E : Type 0} (view : E → EngineView) (times : Pace → E → Type 0) (engine : E) (lane : Lane) (end : Option End) (cycles : ℕ) (pace : Pace) → lane.core ≢ turn
+      → IsServedAt view times old engine lane end cycles pace → IsServedAt view times new engine lane end cycles pace
+  served-kept view times engine lane end cycles pace ne h = record {
+    tells = h.tells;
+    clocks = h.clocks;
+    accesses = rw (left.taken lane.core ne) h.accesses;
+    bound = rw (left.kept.tells_distances, left.kept.bound) h.bound;
+    live = h.live;
+    tight = λ none. tight-kept pace lane ne (h.tight none);
+    at_once = λ once. h.at_once (once-along (sym left.kept.tells_distances) (sym left.kept.bound) once);
+  }
+
 -- An engine at its start has executed nothing.
-reaches-start : (image : ImageValue) (core cores : ℕ) (e : EngineView) → IsStarted image core cores e → Reaches e []
-reaches-start image core cores e h =
+runs-start : (image : ImageValue) (core cores : ℕ) (e : EngineView) → IsStarted image core cores e → RunsAlone e []
+runs-start image core cores e h =
     record { comes = rw (h.executed, h.state, h.core_is, h.cores_are) (comes-start e.image.code (memory_bytes e.image) cores core) }
 
--- It belongs to every side on which nothing is asked and taken yet.
+-- It belongs to every side on which nothing is asked yet.
 pub start-coupled : (image : ImageValue) (core cores : ℕ) (e : EngineView) (s : SideView) (lane : Lane) → IsStarted image core cores e
-    → s.image ≡ image → s.cores ≡ cores → s.taken ≡ [] → mark (s.port (Fetch lane.core)) ≡ Unasked → mark (s.port (Access lane.core)) ≡ Unasked
-    → lane.core ≡ core → IsClosed lane → IsCoupled None None e s lane
-start-coupled image core cores e s lane h image_is cores_are taken fetch access lane_is closed = record {
+    → s.image ≡ image → s.cores ≡ cores → mark (s.port (Fetch lane.core)) ≡ Unasked → mark (s.port (Access lane.core)) ≡ Unasked
+    → lane.core ≡ core → IsClosed lane → IsCoupled e s lane
+start-coupled image core cores e s lane h image_is cores_are fetch access lane_is closed = record {
   core = h.core_is ∙ sym lane_is;
   image = h.image_is ∙ sym image_is;
   cores = h.cores_are ∙ sym cores_are;
   sound = h.sound;
-  reaches = rw taken (reaches-start image core cores e h);
   fetch = rw closed.fetch fetch;
   access = rw closed.access access;
-  fits = tt;
-  fetch_hand = tt;
-  access_hand = tt;
 }
 
 -- The seat of a core of a memory before its first turn.
@@ -100,8 +135,9 @@ start-seat core budget m e lane end cycles some within fresh h = record { lane_i
 
     on : IsOn 0 budget m e lane cycles
     on = record {
-      coupled = start-coupled m.image core m.cores e (side_of m lane.core) lane h.engine refl refl (rw (fresh.ports (Access lane.core), fresh.history) refl)
+      coupled = start-coupled m.image core m.cores e (side_of m lane.core) lane h.engine refl refl
           (free (Fetch lane.core)) (free (Access lane.core)) h.lane_is h.closed;
+      runs = rw (fresh.ports (Access lane.core), fresh.history) (runs-start m.image core m.cores e h.engine);
       live = h.engine.live;
       count = h.no_cycle;
       more = some;
@@ -109,3 +145,27 @@ start-seat core budget m e lane end cycles some within fresh h = record { lane_i
       fetches = enough (Fetch lane.core) refl;
       accesses = enough (Access lane.core) refl;
     }
+
+-- The pace at which engines on a memory are served before the first turn.
+abbrev pub first_pace : MemoryView → Pace
+first_pace m = record { service = no_service; bound = if m.tells_distances then Some m.bound else None; fetch_left = m.bound; access_left = m.bound; is_drained = false }
+
+left-first : (told : Bool) (bound : ℕ) → IsLeft {W = ℕ} (if told then Some bound else None) None None 0 bound
+left-first true bound = omega arith
+left-first false bound = tt
+
+pub first-pace : (m : MemoryView) → IsFirstPace (first_pace m)
+first-pace m = record { service = refl; fetch = left-first m.tells_distances m.bound; access = left-first m.tells_distances m.bound; drained = refl }
+
+pub served-start : {E : Type 0} (view : E → EngineView) (times : Pace → E → Type 0) (m : MemoryView) (engine : E) (lane : Lane) (end : Option End) (cycles core budget : ℕ)
+    → IsFresh m.image m.cores budget m.caches m → IsStartSeat m.image core m.cores budget (view engine) lane end cycles → times (first_pace m) engine
+    → IsServedAt view times m engine lane end cycles (first_pace m)
+served-start view times m engine lane end cycles core budget fresh h tells = record {
+  tells = tells;
+  clocks = sym h.no_cycle;
+  accesses = rw (fresh.ports (Access lane.core), fresh.history) refl;
+  bound = refl;
+  live = rw h.no_end h.engine.live;
+  tight = λ none. record { bound = refl; fetch = λ told. rw h.closed.fetch (omega arith); access = λ told. rw h.closed.access (omega arith) };
+  at_once = λ once. (h.closed, refl);
+}

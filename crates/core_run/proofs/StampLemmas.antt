@@ -14,7 +14,7 @@ use Rattle.core_run.specs.Serial.{AddsOwn, IsEarlier, AreInTurns}
 
 -- Facts of each element.
 
-all-append : {X : Type 0} (P : X → Type 0) (xs ys : List X) → AllByRecursion P xs → AllByRecursion P ys → AllByRecursion P (xs ++ ys)
+pub all-append : {X : Type 0} (P : X → Type 0) (xs ys : List X) → AllByRecursion P xs → AllByRecursion P ys → AllByRecursion P (xs ++ ys)
 all-append P [] ys h k = k
 all-append P (x ∷ xs) ys h k = (h.0, all-append P xs ys h.1 k)
 
@@ -44,7 +44,7 @@ own-other cycle core other stamps more ne own =
     filter-append _ stamps (stamped cycle more)
     ∙ (ap (λ t. own_stamps stamps other ++ t) (stamped-other cycle core other more ne own) ∙ append-nil (own_stamps stamps other))
 
-entries-stamped : (cycle : ℕ) (more : List Entry) → map (λ (stamp : Stamp). stamp.entry) (stamped cycle more) ≡ more
+pub entries-stamped : (cycle : ℕ) (more : List Entry) → map (λ (stamp : Stamp). stamp.entry) (stamped cycle more) ≡ more
 entries-stamped cycle [] = refl
 entries-stamped cycle (entry ∷ more) = ap (λ t. entry ∷ t) (entries-stamped cycle more)
 

@@ -1,35 +1,41 @@
--- What the turn of a core adds to the history, and what its engine tells of its times, on a memory that answers at once.
-use Rattle.std.proofs.Common.{◌≡◌, ◌≢◌, ℕ, ◌+◌, ◌≤◌, inl, inr, Bool, true, false, IsTrue, Some, None, List, [], ◌∷◌, ◌++◌, length, append-nil, refl, ap, sym, ◌∙◌, subst, arith}
-use Rattle.std.specs.Prelude.{Option, is_some, ◌==◌, if◌then◌else◌}
+-- What the turn of a core makes of its seat, of its calls and of the history.
+use Rattle.std.proofs.Common.{◌≡◌, ◌≢◌, ℕ, ◌+◌, ◌≤◌, inl, inr, Bool, true, false, Some, None, List, [], ◌∷◌, ◌++◌, length, append-nil, refl, ap, sym, ◌∙◌, subst, arith}
+use Rattle.std.specs.Prelude.{Option, is_some, option_map, ◌==◌, if◌then◌else◌, map}
 use Rattle.std.specs.List.{AllByRecursion}
-use Rattle.std.proofs.lemmas.Bool.{eqb-true, eq-eqb}
-use Rattle.std.proofs.lemmas.List.{append_cancel_left}
-use Rattle.std.proofs.lemmas.Option.{same_Some}
-use Rattle.mips_isa.specs.declared.Stop.{Stop}
+use Rattle.std.proofs.lemmas.Bool.{eq-eqb}
+use Rattle.std.proofs.lemmas.List.{append_cancel_left, map-append}
 use Rattle.access_log.specs.declared.Entry.{Entry}
 use Rattle.access_log.specs.declared.Item.{Item}
+use Rattle.access_log.specs.declared.request.Request.{Request}
 use Rattle.access_log.specs.Items.{entries, own_items}
-use Rattle.access_log.specs.Requests.{entry_of}
+use Rattle.access_log.specs.Requests.{entry_of, fetch_of}
 use Rattle.access_log.specs.Stamps.{Stamp, stamped}
 use Rattle.access_log.proofs.ItemLaws.{entries-append, own_items-append}
 use Rattle.timetable.specs.declared.End.{End}
-use Rattle.timetable.specs.declared.End.TheVariants.{Stopped, Spent}
+use Rattle.timetable.specs.declared.End.TheVariants.{Spent}
 use Rattle.mem_port.specs.declared.port.Port.{Port}
-use Rattle.mem_port.specs.declared.port.Port.TheVariants.{Access}
+use Rattle.mem_port.specs.declared.port.Port.TheVariants.{Fetch, Access}
 use Rattle.mem_port.specs.declared.port.PortState.{PortState}
 use Rattle.mem_port.specs.declared.port.PortState.TheVariants.{Free, Asked, Waiting, Answered, Closed}
+use Rattle.mem_port.specs.declared.port.Withdrawal.{Withdrawal}
+use Rattle.mem_port.specs.declared.port.Moved.{Moved}
 use Rattle.mem_port.specs.declared.engine.Progress.{Progress}
 use Rattle.mem_port.specs.declared.engine.Progress.TheVariants as progress
-use Rattle.mem_port.specs.Loaded.{stop}
+use Rattle.mem_port.specs.Calls.{Call}
 use Rattle.mem_port.specs.Ports.{IsWaiting, HoldsEntry, taken_of}
 use Rattle.mem_port.specs.Memory.{MemoryView, IsLawful, IsAtOnce, committed}
 use Rattle.mem_port.specs.Engine.{EngineView}
-use Rattle.mem_port.specs.Pace.{Pace}
-use Rattle.mem_port.specs.Side.{SideView, KeepsSide, LeavesOthers, Evolves, Unasked, mark, side_of}
+use Rattle.mem_port.specs.Pace.{Pace, executed_by, one_if}
+use Rattle.mem_port.specs.Side.{SideView, Mark, LeavesOthers, Evolves, mark}
 use Rattle.core_run.specs.declared.lane.Lane.{Lane}
-use Rattle.core_run.specs.Lanes.{AccessPort, IsCoupled, StopsWhereDead, UsesAsks, IsFinished, IsClosed, IsQuiet, Progressed, WaitsLess, at_once, pace_of, wait_left}
-use Rattle.core_run.specs.Serial.{EndFits, IsOn, IsOver, SeatHolds, IsPunctual, AddsOwn, goes_on, end_after}
+use Rattle.core_run.specs.declared.lane.Came.{Came}
+use Rattle.core_run.specs.Cycle.{IsCycle, IsEnding, cycle_calls, opens, sends, takes, steps, withdraws}
+use Rattle.core_run.specs.Lanes.{PortHolds, IsCoupled, IsClosed, IsQuiet, Progressed}
+use Rattle.core_run.specs.Serial.{IsOn, SeatHolds, AddsOwn, HasChoice, Leads, Receives, end_after}
+use Rattle.core_run.proofs.LeadLaws.{lead-append, lead-along}
 use Rattle.core_run.proofs.OwnLemmas.{entries-own, own-all}
+use Rattle.core_run.proofs.DoneLaws.{taken-all}
+use Rattle.core_run.proofs.StampLemmas.{all-append, entries-stamped}
 
 -- Every answer comes as its request is served, so that nothing waits.
 none-waits : (m : MemoryView) → IsLawful m → IsAtOnce m → (q : Port) → IsWaiting (m.port q) → ⊥
@@ -37,6 +43,9 @@ none-waits m lawful once q h =
     let near = lawful.near once.told q h in
     let bound = once.bound in
     omega (arith, near.0, near.1, bound)
+
+pub once-along : {old new : MemoryView} → new.tells_distances ≡ old.tells_distances → new.bound ≡ old.bound → IsAtOnce old → IsAtOnce new
+once-along told bound once = record { told = told ∙ once.told; bound = bound ∙ once.bound }
 
 -- So a port that another core's turn leaves is as it was.
 port-same : (m : MemoryView) → IsLawful m → IsAtOnce m → (q : Port) (state : PortState) → Evolves (m.port q) state → state ≡ m.port q
@@ -53,14 +62,6 @@ same-own (Asked r) core own more was is taken = taken
 same-own (Waiting r) core own more was is taken = taken
 same-own (Answered r word) core own more was is taken = is ∙ (ap (λ t. t ++ entry_of core r word ∷ []) taken ∙ sym was)
 same-own Closed core own more was is taken = taken
-
--- At rest a core has taken all its entries.
-pub taken-all : (port : PortState) (own : List Entry) → IsQuiet (mark port) → taken_of port own ≡ own
-taken-all Free own h = refl
-taken-all (Asked r) own h = absurd h
-taken-all (Waiting r) own h = absurd h
-taken-all (Answered r word) own h = absurd h
-taken-all Closed own h = refl
 
 -- What a core took in its turn is what was added.
 module _ (core : ℕ) (old new : MemoryView) (was : IsLawful old) (is : IsLawful new) (once : IsAtOnce old) (left : LeavesOthers core old new) where
@@ -96,35 +97,70 @@ module _ (core : ℕ) (old new : MemoryView) (was : IsLawful old) (is : IsLawful
           append_cancel_left (own_items old.history core) (own_items added core) more
           (sym (own-added core) ∙ (sym after ∙ (taken ∙ ap (λ t. t ++ more) before)))
 
--- Where nothing was open, a want that a cycle leaves open would have no step left.
-shut : (was_open is_open : Bool) (left patience bound : ℕ) → bound ≡ 0 → was_open ≡ false
-    → (is_open ≡ true → left + 1 ≤ wait_left was_open patience bound) → is_open ≡ false
-shut was_open false left patience bound none closed waits = refl
-shut was_open true left patience bound none closed waits =
-    let W : Bool → Type 0 = λ b. left + 1 ≤ wait_left b patience bound in
-    let over = subst W closed (waits refl) in
-    absurd (omega (arith, over, none))
+-- The calls of a turn.
 
-pub closed-after : (old new : SideView) (before after : Lane) → IsTrue old.tells_distances → old.bound ≡ 0 → IsClosed before → WaitsLess 1 old new before after
-    → IsClosed after
-closed-after old new before after told none closed waits = record {
-  fetch = shut before.open_fetch after.open_fetch _ _ old.bound none closed.fetch (waits.fetch told);
-  access = shut before.open_access after.open_access _ _ old.bound none closed.access (waits.access told);
-}
+steps-choice : (choice : ℕ) (step : Option Moved) → AllByRecursion (HasChoice choice) (steps choice step)
+steps-choice choice None = tt
+steps-choice choice (Some result) = (refl, tt)
 
--- With nothing open the pace of a side that answers at once is that.
-pace-closed : (s : SideView) (lane : Lane) (clocks : ℕ) (stamps : List Stamp) → s.bound ≡ 0 → IsClosed lane → pace_of s lane clocks stamps ≡ at_once clocks stamps
-pace-closed s lane clocks stamps none closed = rw (closed.fetch, closed.access, none) refl
+sends-choice : (choice : ℕ) (p : Port) (want : Option Request) → AllByRecursion (HasChoice choice) (sends p want)
+sends-choice choice p None = tt
+sends-choice choice p (Some r) = (tt, (tt, tt))
 
-spent-goes_on : (is_spent : Bool) → goes_on (if is_spent then Some Spent else None) ≡ true
-spent-goes_on true = refl
-spent-goes_on false = refl
+takes-choice : {W : Type 0} (choice : ℕ) (p : Port) (want : Option W) (answer : Option ℕ) → AllByRecursion (HasChoice choice) (takes p want answer)
+takes-choice choice p None answer = tt
+takes-choice choice p (Some want) answer = (tt, tt)
 
--- Whether a core goes on behind a cycle tells whether its engine is live.
-pub live-after : (result : Progress) (cycles budget : ℕ) (e : EngineView) (end after : Option End) → after ≡ end_after result cycles budget → end ≡ after
-    → Progressed result e → e.is_live ≡ goes_on end
-live-after progress.Running cycles budget e end after is same live = rw (same, is) (live ∙ sym (spent-goes_on (cycles == budget)))
-live-after (progress.Stopped why) cycles budget e end after is same live = rw (same, is) live.0
+withdraws-choice : (choice : ℕ) (is_open : Bool) (p : Port) (answer : Withdrawal) → AllByRecursion (HasChoice choice) (withdraws is_open p answer)
+withdraws-choice choice false p answer = tt
+withdraws-choice choice true p answer = (tt, tt)
+
+cycle-choice : (choice : ℕ) (e : EngineView) (lane : Lane) (came : Came) → AllByRecursion (HasChoice choice) (cycle_calls choice e lane came)
+cycle-choice choice e lane came =
+    let accesses = sends (Access lane.core) (opens lane.open_access e.access) in
+    let fetches = sends (Fetch lane.core) (option_map fetch_of (opens lane.open_fetch e.fetch)) in
+    let replies = takes (Access lane.core) e.access came.reply in
+    let words = takes (Fetch lane.core) e.fetch came.fetched in
+    let moves = steps choice came.step in
+    all-append (HasChoice choice) accesses (fetches ++ (replies ++ (words ++ moves))) (sends-choice choice (Access lane.core) (opens lane.open_access e.access))
+    (all-append (HasChoice choice) fetches (replies ++ (words ++ moves)) (sends-choice choice (Fetch lane.core) (option_map fetch_of (opens lane.open_fetch e.fetch)))
+    (all-append (HasChoice choice) replies (words ++ moves) (takes-choice choice (Access lane.core) e.access came.reply)
+    (all-append (HasChoice choice) words moves (takes-choice choice (Fetch lane.core) e.fetch came.fetched) (steps-choice choice came.step))))
+
+module _ {E S M : Type 0} {view : E → EngineView} {times : Pace → E → Type 0} {side : S → ℕ → SideView} {makes : Call → S → S → Type 0} {pays : ℕ → ℕ → S → S → Type 0}
+    (does : Call → M → M → Type 0) (held : S → M) (each : (call : Call) (s t : S) → makes call s t → does call (held s) (held t)) where
+  pub cycle-leads : {choice : ℕ} {came : Came} {result : Progress} {e f : E} {s t : S} {before after : Lane} → choice ≡ 0
+      → IsCycle view times side makes pays choice came result e f s t before after → Leads does (held s) (held t)
+  cycle-leads {choice} {came} {result} {e} {f} {s} {t} {before} {after} zero cycle =
+      let calls = cycle_calls choice (view e) before came in (
+        calls,
+        (
+          lead-along makes does held each calls s t cycle.calls,
+          subst (λ (k : ℕ). AllByRecursion (HasChoice k) calls) zero (cycle-choice choice (view e) before came),
+        ),
+      )
+
+  pub ending-leads : {access fetch : Withdrawal} {e f : E} {s t : S} {before after : Lane}
+      → IsEnding view times side makes pays access fetch e f s t before after → Leads does (held s) (held t)
+  ending-leads {access} {fetch} {e} {f} {s} {t} {before} {after} ending =
+      let accesses = withdraws before.open_access (Access before.core) access in
+      let fetches = withdraws before.open_fetch (Fetch before.core) fetch in (
+        accesses ++ fetches,
+        (
+          lead-along makes does held each (accesses ++ fetches) s t ending.calls,
+          all-append (HasChoice 0) accesses fetches (withdraws-choice 0 before.open_access (Access before.core) access) (withdraws-choice 0 before.open_fetch (Fetch before.core) fetch),
+        ),
+      )
+
+pub leads-twice : {M : Type 0} (makes : Call → M → M → Type 0) (old mid new : M) → Leads makes old mid → Leads makes mid new → Leads makes old new
+leads-twice makes old mid new h k = (h.0 ++ k.0, (lead-append makes h.0 k.0 old mid new h.1.0 k.1.0, all-append (HasChoice 0) h.0 k.0 h.1.1 k.1.1))
+
+pub leads-none : {M : Type 0} (makes : Call → M → M → Type 0) (m : M) → Leads makes m m
+leads-none makes m = ([], (refl, tt))
+
+-- What holds of a state holds of the one that is it.
+pub as_now : {M : Type 0} (P : M → Type 0) (now : M) {last : M} → last ≡ now → P now → P last
+as_now P now same h = subst P (sym same) h
 
 pub none-is : {A : Type 0} (option : Option A) → is_some option ≡ false → option ≡ None
 none-is None none = refl
@@ -136,124 +172,45 @@ pub is-on : {rounds budget : ℕ} {m : MemoryView} {e : EngineView} {lane : Lane
 is-on None none h = h
 is-on (Some end) none h = cc
 
--- A core that has stopped stands at its stop.
-pub dead-stops : (result : Progress) (e : EngineView) → Progressed result e → StopsWhereDead e
-dead-stops progress.Running e live dead = cc
-dead-stops (progress.Stopped why) e h dead = (why, h.1)
-
-fits-spent : (is : Bool) (cycles budget : ℕ) (end : End) (stops : Option Stop) → (is ≡ true → cycles ≡ budget) → (if is then Some Spent else None) ≡ Some end → EndFits end budget cycles stops
-fits-spent true cycles budget end stops at h = subst (λ (e : End). EndFits e budget cycles stops) (same_Some Spent end h) (at refl)
-fits-spent false cycles budget end stops at h = cc
-
--- The end that a cycle makes is one of its core.
-end-fits : (result : Progress) (cycles budget : ℕ) (end : End) (x y : EngineView) → Progressed result x → end_after result cycles budget ≡ Some end → cycles ≤ budget
-    → (x.is_live ≡ false → y ≡ x) → EndFits end budget cycles (stop y.image y.state)
-end-fits progress.Running cycles budget end x y live is within same = fits-spent (cycles == budget) cycles budget end _ (eqb-true cycles budget) is
-end-fits (progress.Stopped why) cycles budget end x y h is within same =
-    subst (λ (e : End). EndFits e budget cycles (stop y.image y.state)) (same_Some (Stopped why) end is) (rw (same h.0) h.1, within)
-
--- The turn that ends a core.
-pub ended-seat : {budget cycles : ℕ} {after : MemoryView} {x y : EngineView} {lane : Lane} (m : MemoryView) (result : Progress) (end : End) (was_open : Bool) → Progressed result x
-    → end_after result cycles budget ≡ Some end → cycles ≤ budget → (x.is_live ≡ false → was_open ≡ false) → (was_open ≡ false → y ≡ x)
-    → IsFinished y (side_of m lane.core) lane.core → after ≡ m → IsOver budget after y lane end cycles
-ended-seat {budget} {cycles} {after} {x} {y} m result end was_open progressed is within dead still finished same =
-    rw same (record { finished = finished; fits = end-fits result cycles budget end x y progressed is within (λ no. still (dead no)) })
-
 spent-some : (is : Bool) → is ≡ true → (if is then Some Spent else None) ≡ None → ⊥
 spent-some true same h = cc
 spent-some false same h = cc
 
 -- A cycle that ends nothing leaves its core live, and a cycle of the budget.
-runs-on : (result : Progress) (cycles budget : ℕ) (e : EngineView) → Progressed result e → end_after result cycles budget ≡ None → (e.is_live ≡ true) × (cycles ≢ budget)
+pub runs-on : (result : Progress) (cycles budget : ℕ) (e : EngineView) → Progressed result e → end_after result cycles budget ≡ None → (e.is_live ≡ true) × (cycles ≢ budget)
 runs-on progress.Running cycles budget e live is = (live, λ at. spent-some (cycles == budget) (eq-eqb cycles budget at) is)
 runs-on (progress.Stopped why) cycles budget e h is = cc
 
--- The turn of a core that runs on.
-pub next-seat : {rounds budget cycles : ℕ} {old after : MemoryView} {x y : EngineView} {lane next : Lane} (new : MemoryView) (result : Progress) → IsOn rounds budget old x lane cycles
-    → Progressed result y → end_after result (cycles + 1) budget ≡ None → next.core ≡ lane.core → IsCoupled None None y (side_of new next.core) next
-    → y.clocks_left + 1 ≡ x.clocks_left → UsesAsks lane.core 1 1 (side_of old lane.core) (side_of new lane.core) → after ≡ new → IsOn (rounds + 1) budget after y next (cycles + 1)
-next-seat {rounds} {budget} {cycles} {old} {after} {x} {y} {lane} {next} new result on progressed is core_is coupled clocks asks same =
-    let runs = runs-on result (cycles + 1) budget y progressed is in
-    let behind = runs.1 in
-    rw same (record {
-      coupled = coupled;
-      live = runs.0;
-      count = omega (arith, on.count);
-      more = omega (arith, on.more, on.count, behind);
-      clocks = omega (arith, on.clocks, clocks);
-      fetches = rw core_is (omega (arith, on.fetches, asks.fetch));
-      accesses = rw core_is (omega (arith, on.accesses, asks.access));
-    })
+pub few-asks : (is_asked : Bool) → one_if is_asked ≤ 1
+few-asks true = omega arith
+few-asks false = omega arith
 
-quiet-closed : (e : EngineView) (s : SideView) (lane : Lane) → IsCoupled None None e s lane → IsClosed lane → IsQuiet (mark (s.port (Access lane.core)))
-quiet-closed e s lane coupled closed =
-    let A : Bool → Type 0 = λ b. AccessPort b (mark (s.port (Access lane.core))) e.access in
-    let unasked : mark (s.port (Access lane.core)) ≡ Unasked = subst A closed.access coupled.access in
-    rw unasked tt
+pub asks-less : (budget old new used rounds : ℕ) → budget ≤ old + rounds → new + used ≡ old → used ≤ 1 → budget ≤ new + (rounds + 1)
+asks-less budget old new used rounds h k few = omega arith
 
--- A cycle of an engine whose wants are met at once: nothing is open behind it, and at most one access was taken.
-pub record Cycled {E : Type 0} (timed : Pace → E → Type 0) (core cycles rounds : ℕ) (stamps : List Stamp) (old new : MemoryView) (lane : Lane) (engine : E) : Type 0 where
-  pub closed : IsClosed lane
-  pub quiet_before : IsQuiet (mark (old.port (Access core)))
-  pub quiet : IsQuiet (mark (new.port (Access core)))
-  pub more : List Entry
-  pub one : length more ≤ 1
-  pub taken : committed new core ≡ committed old core ++ more
-  pub tells : timed (at_once (cycles + 1) (stamps ++ stamped (rounds + 1) more)) engine
+-- One execution at most.
+pub executed-one : (core : ℕ) (want : Option Request) (reply : Option ℕ) → length (executed_by core want reply) ≤ 1
+executed-one core None reply = omega arith
+executed-one core (Some r) None = omega arith
+executed-one core (Some r) (Some word) = omega arith
 
-module _ {E : Type 0} (view : E → EngineView) (timed : Pace → E → Type 0) where
-  -- What a turn tells of its engine and of the history.
-  abbrev Tells : ℕ → ℕ → ℕ → List Stamp → List Item → List Item → Lane → Option End → E → Type 0
-  Tells core cycles rounds stamps old new lane end engine =
-      (more : List Entry) × (AddsOwn core more old new
-      × (IsPunctual (view engine) lane end × timed (at_once cycles (stamps ++ stamped (rounds + 1) more)) engine))
+quiet-mark : (is_open : Bool) (port : Mark) (want : Option Request) → is_open ≡ false → PortHolds is_open port want → IsQuiet port
+quiet-mark false port want closed unasked = rw unasked tt
+quiet-mark true port want closed h = cc
 
-  -- What the clauses of a cycle say of it.
-  pub cycled : {x y : E} {old : MemoryView} (new : MemoryView) {lane next : Lane} {rounds budget cycles : ℕ} {stamps : List Stamp}
-      → IsAtOnce old → IsClosed lane → timed (at_once cycles stamps) x → IsOn rounds budget old (view x) lane cycles
-      → KeepsSide (side_of old lane.core) (side_of new lane.core) → next.core ≡ lane.core → IsCoupled None None (view y) (side_of new next.core) next
-      → WaitsLess 1 (side_of old lane.core) (side_of new lane.core) lane next
-      → (timed (pace_of (side_of old lane.core) lane cycles stamps) x
-      → (more : List Entry) × ((length more ≤ 1) × ((committed new lane.core ≡ committed old lane.core ++ more)
-      × timed (pace_of (side_of new lane.core) next (cycles + 1) (stamps ++ stamped (cycles + 1) more)) y)))
-      → Cycled timed lane.core cycles rounds stamps old new next y
-  cycled {x} {y} {old} new {lane} {next} {rounds} {budget} {cycles} {stamps} once closed tells on kept core_is coupled waits cycle =
-      let before : timed (pace_of (side_of old lane.core) lane cycles stamps) x = rw (pace-closed (side_of old lane.core) lane cycles stamps once.bound closed) tells in
-      let f = cycle before in
-      let shut = closed-after (side_of old lane.core) (side_of new lane.core) lane next once.told once.bound closed waits in
-      let after : timed (at_once (cycles + 1) (stamps ++ stamped (cycles + 1) f.0)) y =
-      rw (sym (pace-closed (side_of new lane.core) next (cycles + 1) (stamps ++ stamped (cycles + 1) f.0) (kept.bound ∙ once.bound) shut)) f.1.1.1 in
-      record {
-        closed = shut;
-        quiet_before = quiet-closed (view x) (side_of old lane.core) lane on.coupled closed;
-        quiet = (let Q : ℕ → Type 0 = λ k. IsQuiet (mark (new.port (Access k))) in subst Q core_is (quiet-closed (view y) (side_of new next.core) next coupled shut));
-        more = f.0;
-        one = f.1.0;
-        taken = f.1.1.0;
-        tells = rw (sym on.count) after;
-      }
+-- Where nothing is open, no request is on the port for accesses.
+pub quiet-closed : (e : EngineView) (s : SideView) (lane : Lane) → IsCoupled e s lane → IsClosed lane → IsQuiet (mark (s.port (Access lane.core)))
+quiet-closed e s lane coupled closed = quiet-mark lane.open_access (mark (s.port (Access lane.core))) e.access closed.access coupled.access
 
-  -- The end of a core leaves what its last cycle told.
-  pub cycled-finished : {x y : E} {core cycles rounds : ℕ} {stamps : List Stamp} {old mid new : MemoryView} {before lane : Lane}
-      → Cycled timed core cycles rounds stamps old mid before x → before.core ≡ core → lane.core ≡ before.core → IsClosed lane
-      → IsFinished (view y) (side_of new lane.core) lane.core → (before.open_access ≡ false → y ≡ x)
-      → (before.open_access ≡ false → committed new before.core ≡ committed mid before.core) → Cycled timed core cycles rounds stamps old new lane y
-  cycled-finished {x} {y} {core} {cycles} {rounds} {stamps} {old} {mid} {new} {before} {lane} h core_is lane_is closed finished still taken =
-      let Q : ℕ → Type 0 = λ k. IsQuiet (mark (new.port (Access k))) in
-      let T : ℕ → Type 0 = λ k. committed new k ≡ committed mid k in
-      record {
-        closed = closed;
-        quiet_before = h.quiet_before;
-        quiet = subst Q (lane_is ∙ core_is) finished.access;
-        more = h.more;
-        one = h.one;
-        taken = subst T core_is (taken h.closed.access) ∙ h.taken;
-        tells = rw (still h.closed.access) h.tells;
-      }
-
-  -- What a turn with such a cycle tells.
-  pub turn-tells : {x : E} {core cycles rounds : ℕ} {stamps : List Stamp} {old new : MemoryView} {lane : Lane} {end : Option End} {history : List Item}
-      → Cycled timed core cycles rounds stamps old new lane x → IsLawful old → IsLawful new → IsAtOnce old → LeavesOthers core old new
-      → history ≡ new.history → (view x).is_live ≡ goes_on end → Tells core (cycles + 1) rounds stamps old.history history lane end x
-  turn-tells {x} {core} {cycles} {rounds} {stamps} {old} {new} h was is once left same live =
-      (h.more, (rw same (adds-own core old new was is once left h.more h.quiet_before h.quiet h.taken h.one), (record { closed = h.closed; live = live }, h.tells)))
+-- What a core receives in its turn is what is added to the history.
+pub receives : (core cycle : ℕ) (old new : MemoryView) (p q : Pace) (more : List Entry) → IsLawful old → IsLawful new → IsAtOnce old → LeavesOthers core old new
+    → IsQuiet (mark (old.port (Access core))) → IsQuiet (mark (new.port (Access core)))
+    → map (λ (stamp : Stamp). stamp.entry) p.service.accesses ≡ committed old core → map (λ (stamp : Stamp). stamp.entry) q.service.accesses ≡ committed new core
+    → length more ≤ 1 → q.service.accesses ≡ p.service.accesses ++ stamped cycle more → Receives core cycle old.history new.history p q
+receives core cycle old new p q more was is once left quiet still took takes one same = record {
+  more = more;
+  adds = adds-own core old new was is once left more quiet still
+      (sym takes ∙ (ap (map (λ (stamp : Stamp). stamp.entry)) same ∙ (map-append _ p.service.accesses (stamped cycle more)
+      ∙ (ap (λ t. t ++ map (λ (stamp : Stamp). stamp.entry) (stamped cycle more)) took ∙ ap (λ t. committed old core ++ t) (entries-stamped cycle more))))) one;
+  received = same;
+}

@@ -13,7 +13,7 @@ use Rattle.mem_port.specs.declared.port.Withdrawal.TheVariants as withdrawal
 use Rattle.mem_port.specs.declared.engine.Progress.{Progress}
 use Rattle.mem_port.specs.Calls.{Call, Ask, Serve, Step, Take, Withdraw, Lead}
 use Rattle.mem_port.specs.Engine.{EngineView, Clocks, Drains}
-use Rattle.mem_port.specs.Pace.{Pace, Paces, PacesDrain, Service, is_unmet, one_if, executed_by}
+use Rattle.mem_port.specs.Pace.{Pace, Paces, PacesDrain, is_unmet, one_if, executed_by}
 use Rattle.mem_port.specs.Ports.{core_of, IsWaiting, IsUnanswered}
 use Rattle.mem_port.specs.Side.{SideView, Evolves, steps_in}
 use Rattle.core_run.specs.declared.lane.Lane.{Lane}

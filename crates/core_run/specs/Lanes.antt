@@ -1,5 +1,5 @@
 -- One core's engine and its side of a memory.
-use Rattle.std.specs.Prelude.{◌≡◌, ℕ, ◌+◌, Bool, true, false, IsTrue, Option, Some, None, option_map, if◌then◌else◌, List, [], ◌∷◌, ◌++◌, ◌≤◌}
+use Rattle.std.specs.Prelude.{◌≡◌, ℕ, ◌+◌, Bool, true, false, IsTrue, Option, Some, None, option_map, if◌then◌else◌, List, ◌≤◌}
 use Rattle.mips_isa.specs.declared.Stop.{Stop}
 use Rattle.mips_isa.specs.Steps.{start}
 use Rattle.image_file.specs.Value.{ImageValue, memory_bytes}
@@ -13,9 +13,10 @@ use Rattle.mem_port.specs.declared.port.Port.TheVariants.{Fetch, Access}
 use Rattle.mem_port.specs.declared.engine.Progress.{Progress}
 use Rattle.mem_port.specs.declared.engine.Progress.TheVariants as progress
 use Rattle.mem_port.specs.Engine.{EngineView, IsSound}
-use Rattle.mem_port.specs.Pace.{Pace, Service}
+use Rattle.mem_port.specs.Pace.{Pace, Service, after_clock}
 use Rattle.mem_port.specs.Side.{Mark, Unasked, Sent, Served, Shut, mark, SideView, KeepsSide, LeavesPort}
 use Rattle.core_run.specs.declared.lane.Lane.{Lane}
+use Rattle.core_run.specs.declared.lane.Came.{Came}
 use Rattle.core_run.specs.Cycle.{wait_left}
 
 -- The core of an engine comes by itself, with these accesses, to where the engine stands.
@@ -92,6 +93,22 @@ pace_of s lane service = record {
   fetch_left = wait_left lane.open_fetch (s.patience (Fetch lane.core)) s.bound;
   access_left = wait_left lane.open_access (s.patience (Access lane.core)) s.bound;
   is_drained = false;
+}
+
+-- A pace that is no tighter than a side: each want may stay unmet for as long at least as its request may wait.
+pub record IsNoTighter (pace : Pace) (s : SideView) (lane : Lane) : Type 0 where
+  pub bound : pace.bound ≡ bound_of s
+  pub fetch : IsTrue s.tells_distances → wait_left lane.open_fetch (s.patience (Fetch lane.core)) s.bound ≤ pace.fetch_left
+  pub access : IsTrue s.tells_distances → wait_left lane.open_access (s.patience (Access lane.core)) s.bound ≤ pace.access_left
+
+-- The pace behind a cycle of an engine, with what came and the side and the lane behind it.
+abbrev pub pace_after : Came → EngineView → SideView → Lane → Pace → Pace
+pace_after came e s lane pace = record {
+  service = after_clock came.fetched came.reply e pace.service;
+  bound = pace.bound;
+  fetch_left = wait_left lane.open_fetch (s.patience (Fetch lane.core)) s.bound;
+  access_left = wait_left lane.open_access (s.patience (Access lane.core)) s.bound;
+  is_drained = pace.is_drained;
 }
 
 -- An engine at its start.

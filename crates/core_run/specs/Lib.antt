@@ -1,5 +1,6 @@
 pub mod Cycle
 pub mod Lanes
+pub mod Meets
 pub mod PlainView
 pub mod PlainUses
 pub mod Serial

@@ -1,5 +1,5 @@
 -- An unpipelined core uses what it gets.
-use Rattle.std.proofs.Common.{◌≡◌, ℕ, ◌+◌, ◌*◌, ◌<◌, ◌≤◌, length, arith}
+use Rattle.std.proofs.Common.{◌≤◌, arith}
 use Rattle.mem_port.specs.Engine.{EngineView}
 use Rattle.mem_port.specs.Pace.{Pace, UsesService}
 use Rattle.core_run.specs.declared.plain.Phase.{Phase}

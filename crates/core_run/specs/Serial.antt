@@ -7,7 +7,7 @@ use Rattle.access_log.specs.declared.Entry.{Entry}
 use Rattle.access_log.specs.declared.Item.{Item}
 use Rattle.access_log.specs.Items.{entries}
 use Rattle.access_log.specs.Replay.{own, replay}
-use Rattle.access_log.specs.Stamps.{Stamp, own_stamps, IsRising}
+use Rattle.access_log.specs.Stamps.{Stamp, stamped, own_stamps, IsRising}
 use Rattle.letters.specs.Caches.{Caches}
 use Rattle.letters.specs.Fold.{Follows}
 use Rattle.timetable.specs.declared.End.{End}
@@ -19,14 +19,14 @@ use Rattle.mem_port.specs.declared.port.Port.TheVariants.{Fetch, Access}
 use Rattle.mem_port.specs.declared.engine.Progress.{Progress}
 use Rattle.mem_port.specs.declared.engine.Progress.TheVariants as progress
 use Rattle.mem_port.specs.Loaded.{stop, code_lines}
-use Rattle.mem_port.specs.Calls.{Call, Ask, Serve, Step, Take, Withdraw}
+use Rattle.mem_port.specs.Calls.{Call, Ask, Serve, Step, Take, Withdraw, Lead}
 use Rattle.mem_port.specs.Memory.{MemoryView, IsAtOnce, committed}
 use Rattle.mem_port.specs.Engine.{EngineView}
 use Rattle.mem_port.specs.Pace.{Pace}
 use Rattle.mem_port.specs.Side.{side_of}
 use Rattle.core_run.specs.declared.lane.Lane.{Lane}
 use Rattle.core_run.specs.declared.serial.Seat.{Seat}
-use Rattle.core_run.specs.Lanes.{RunsAlone, IsCoupled, IsFinished, IsStarted, IsClosed, bound_of}
+use Rattle.core_run.specs.Lanes.{RunsAlone, IsCoupled, IsFinished, IsStarted, IsClosed, IsNoTighter, bound_of}
 
 -- An end is the stop at which the core stands, within the budget, or comes after the whole budget.
 abbrev pub EndFits : End → ℕ → ℕ → Option Stop → Type 0
@@ -95,6 +95,10 @@ HasChoice choice (Step chosen result) = chosen ≡ choice
 HasChoice choice (Take p answer) = Unit {0}
 HasChoice choice (Withdraw p answer) = Unit {0}
 
+-- Calls of turns lead from one memory to another: each step has the choice 0.
+abbrev pub Leads : {M : Type 0} → (Call → M → M → Type 0) → M → M → Type 0
+Leads {M} makes old new = (calls : List Call) × (Lead makes calls old new × AllByRecursion (HasChoice 0) calls)
+
 -- Whether a core that ended so could go on: where its budget is spent.
 abbrev pub goes_on : Option End → Bool
 goes_on (Some (Stopped why)) = false
@@ -115,6 +119,24 @@ pub record AreInTurns (rounds turn : ℕ) (items : List Item) (stamps : List Sta
   pub are : map (λ (stamp : Stamp). stamp.entry) stamps ≡ entries items
   pub rising : IsRising stamps
   pub earlier : AllByRecursion (IsEarlier rounds turn) stamps
+
+-- The engine of a core on a memory was served at this pace so far: it had a clock in each cycle of its core, and its accesses
+-- are those that its core has taken.
+pub record IsServedAt {E : Type 0} (view : E → EngineView) (times : Pace → E → Type 0) (m : MemoryView) (engine : E) (lane : Lane) (end : Option End) (cycles : ℕ) (pace : Pace) : Type 0 where
+  pub tells : times pace engine
+  pub clocks : pace.service.clocks ≡ cycles
+  pub accesses : map (λ (stamp : Stamp). stamp.entry) pace.service.accesses ≡ committed m lane.core
+  pub bound : pace.bound ≡ bound_of (side_of m lane.core)
+  pub live : (view engine).is_live ≡ (goes_on end && not pace.is_drained)
+  pub tight : end ≡ None → IsNoTighter pace (side_of m lane.core) lane
+  -- Where each answer comes as its request is served, nothing is open, and the budget didn't end while something was.
+  pub at_once : IsAtOnce m → IsClosed lane × (pace.is_drained ≡ false)
+
+-- A turn adds to the history what its core receives in a cycle.
+pub record Receives (core cycle : ℕ) (old new : List Item) (before after : Pace) : Type 0 where
+  pub more : List Entry
+  pub adds : AddsOwn core more old new
+  pub received : after.service.accesses ≡ before.service.accesses ++ stamped cycle more
 
 -- The engine of a core that ended so, which was served at this pace: it had a clock in each cycle of its core.
 pub record IsEngineOf (image : ImageValue) (core cores : ℕ) (bound : Option ℕ) (ended : CoreEnd) (pace : Pace) (e : EngineView) : Type 0 where
@@ -144,6 +166,16 @@ AreAt {E} view rounds budget m seats = (core : ℕ) (s : Seat E) → slice_get s
 abbrev pub AreFirst : {E : Type 0} → (E → EngineView) → ImageValue → ℕ → ℕ → List (Seat E) → Type 0
 AreFirst {E} view image cores budget seats = (core : ℕ) (s : Seat E) → slice_get seats core ≡ Some s
     → IsStartSeat image core cores budget (view s.engine) s.lane s.end s.cycles
+
+-- The accesses of a history are in turns, each in the cycle in which its core received it.
+abbrev pub AreReceived : ℕ → ℕ → List Item → (ℕ → Pace) → Type 0
+AreReceived rounds turn items paces =
+    (stamps : List Stamp) × (AreInTurns rounds turn items stamps × ((core : ℕ) → (paces core).service.accesses ≡ own_stamps stamps core))
+
+-- How the engines of seats were served, behind so many rounds and so many turns of the next.
+pub record AreServed {E : Type 0} (view : E → EngineView) (times : Pace → E → Type 0) (rounds turn : ℕ) (m : MemoryView) (seats : List (Seat E)) (paces : ℕ → Pace) : Type 0 where
+  pub each : (core : ℕ) (s : Seat E) → slice_get seats core ≡ Some s → IsServedAt view times m s.engine s.lane s.end s.cycles (paces core)
+  pub at_once : IsAtOnce m → AreReceived rounds turn m.history paces
 
 -- Each core ended with an engine that left these rows and was served at its pace, and its accesses are those of the history.
 abbrev pub EndsServed : {E : Type 0} → (E → EngineView) → (E → List TimeRow) → (Pace → E → Type 0) → MemoryView → OutcomeValue → (ℕ → Pace) → Type 0

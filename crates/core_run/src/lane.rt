@@ -1,15 +1,17 @@
 //! One cycle of a core, and its end.
-ghost use Rattle.std.specs.Prelude.{◌≡◌, ◌≤◌, ◌+◌, ◌++◌, ℕ, true, false, Option, Some, None, IsTrue};
+ghost use Rattle.std.specs.Prelude.{◌≡◌, ◌≤◌, ◌||◌, ℕ, true, false, Option, Some, IsSome, is_some, option_map};
 ghost use Rattle.access_log.specs.declared.request.Request.{Request};
-ghost use Rattle.mem_port.specs.Engine.{KeepsEngine};
-ghost use Rattle.mem_port.specs.Pace.{executed_by};
+ghost use Rattle.access_log.specs.Requests.{fetch_of};
+ghost use Rattle.mem_port.specs.Engine.{IsSound};
+ghost use Rattle.mem_port.specs.Pace.{is_unmet};
 ghost use Rattle.mem_port.specs.declared.port.PortState.TheVariants.{Free};
 ghost use Rattle.mem_port.specs.declared.port.Withdrawal.{Withdrawal};
 ghost use Rattle.mem_port.specs.Ports.{core_of, MayAsk};
-ghost use Rattle.mem_port.specs.Side.{SideView, KeepsSide};
+ghost use Rattle.mem_port.specs.Side.{KeepsSide, mark};
 ghost use Rattle.core_run.specs.declared.lane.Came.{Came};
-ghost use Rattle.core_run.specs.Cycle.{IsCycle, IsEnding};
-ghost use Rattle.core_run.specs.Lanes.{RunsAlone, IsCoupled, SideSends, HasAsks, Progressed, IsFinished, StopsWhereDead, IsClosed};
+ghost use Rattle.core_run.specs.Cycle.{IsCycle, IsEnding, IsDrained, sends, opens, takes, steps, cycle_calls, lane_after, moved_in, withdraws};
+ghost use Rattle.core_run.specs.Lanes.{RunsAlone, IsCoupled, SideSends, HasAsks, PortHolds, Progressed, IsFinished, StopsWhereDead, IsClosed};
+ghost use Rattle.core_run.specs.Meets.{Makes, Opens, TakesUp, StepsOn, Meets, Closes};
 
 use crate::CoreSide;
 use access_log::Request;
@@ -52,151 +54,97 @@ fn send<S: CoreSide>(side: &mut S, port: Port, request: Request)
     requires free { (S.view side.old (core_of port)).port port ≡ Free }
     requires left { 1 ≤ (S.view side.old (core_of port)).asks_left port }
     requires proper { MayAsk (S.view side.old (core_of port)).image port request }
-    ensures serves { S.serves side.new (core_of port) }
-    ensures sends { SideSends port request (S.view side.old (core_of port)) (S.view side.new (core_of port)) }
-    ensures others { S.leaves_others (core_of port) side.old side.new }
+    ensures made { Makes S.serves S.makes S.leaves_others S.paid (core_of port) (sends port (Some request)) 0 side.old side.new }
+    ensures met { SideSends port request (S.view side.old (core_of port)) (S.view side.new (core_of port)) }
 {
     side.ask(port, request);
     side.serve(port);
 }
 
-/// Asks and serves the wanted access, where none is open.
-fn open_access<E: CoreEngine, S: CoreSide>(engine: &E, side: &mut S, lane: &mut Lane)
-    requires serves { S.serves side.old lane.old.core }
-    requires coupled { IsCoupled None None (E.view engine.now) (S.view side.old lane.old.core) lane.old }
-    requires asks { HasAsks (S.view side.old lane.old.core) lane.old }
-    ensures serves { S.serves side.new lane.new.core }
-    ensures coupled { IsCoupled None None (E.view engine.now) (S.view side.new lane.new.core) lane.new }
-    ensures core { lane.new.core ≡ lane.old.core }
-    ensures fetch { lane.new.open_fetch ≡ lane.old.open_fetch }
-    ensures opened { (r : Request) → (E.view engine.now).access ≡ Some r → lane.new.open_access ≡ true }
-    ensures kept { KeepsSide (S.view side.old lane.old.core) (S.view side.new lane.old.core) }
-    ensures taken { (S.view side.new lane.old.core).taken ≡ (S.view side.old lane.old.core).taken }
-    ensures asks { UsesAsks lane.old.core 0 1 (S.view side.old lane.old.core) (S.view side.new lane.old.core) }
-    ensures waits { WaitsLess 0 (S.view side.old lane.old.core) (S.view side.new lane.old.core) lane.old lane.new }
-    ensures others { S.leaves_others lane.old.core side.old side.new }
+/// Asks and serves what is wanted on a port, where nothing is open there.
+fn open_port<S: CoreSide>(side: &mut S, port: Port, is_open: bool, want: Option<Request>)
+    requires serves { S.serves side.old (core_of port) }
+    requires holds { PortHolds is_open (mark ((S.view side.old (core_of port)).port port)) want }
+    requires left { is_open ≡ false → 1 ≤ (S.view side.old (core_of port)).asks_left port }
+    requires proper { (r : Request) → want ≡ Some r → MayAsk (S.view side.old (core_of port)).image port r }
+    ensures made { Makes S.serves S.makes S.leaves_others S.paid (core_of port) (sends port (opens is_open want)) 0 side.old side.new }
+    ensures met { Opens port is_open want (S.view side.old (core_of port)) (S.view side.new (core_of port)) }
 {
-    if lane.open_access {
+    if is_open {
         return;
     }
-    let Some(request) = engine.want_access() else {
+    let Some(request) = want else {
         return;
     };
-    send(side, Port::Access(lane.core), request);
-    lane.open_access = true;
+    send(side, port, request);
 }
 
-/// Asks and serves the wanted fetch, where none is open.
-fn open_fetch<E: CoreEngine, S: CoreSide>(engine: &E, side: &mut S, lane: &mut Lane)
-    requires serves { S.serves side.old lane.old.core }
-    requires coupled { IsCoupled None None (E.view engine.now) (S.view side.old lane.old.core) lane.old }
-    requires asks { lane.old.open_fetch ≡ false → 1 ≤ (S.view side.old lane.old.core).asks_left (Port.Fetch lane.old.core) }
-    ensures serves { S.serves side.new lane.new.core }
-    ensures coupled { IsCoupled None None (E.view engine.now) (S.view side.new lane.new.core) lane.new }
-    ensures core { lane.new.core ≡ lane.old.core }
-    ensures access { lane.new.open_access ≡ lane.old.open_access }
-    ensures opened { (addr : ℕ) → (E.view engine.now).fetch ≡ Some addr → lane.new.open_fetch ≡ true }
-    ensures kept { KeepsSide (S.view side.old lane.old.core) (S.view side.new lane.old.core) }
-    ensures taken { (S.view side.new lane.old.core).taken ≡ (S.view side.old lane.old.core).taken }
-    ensures asks { UsesAsks lane.old.core 1 0 (S.view side.old lane.old.core) (S.view side.new lane.old.core) }
-    ensures waits { WaitsLess 0 (S.view side.old lane.old.core) (S.view side.new lane.old.core) lane.old lane.new }
-    ensures others { S.leaves_others lane.old.core side.old side.new }
+/// Takes the answer to what is wanted on a port, where it is open.
+fn take_answer<S: CoreSide>(side: &mut S, port: Port, want: Option<Request>) -> Option<u32>
+    requires serves { S.serves side.old (core_of port) }
+    requires holds { PortHolds (is_some want) (mark ((S.view side.old (core_of port)).port port)) want }
+    ensures made { Makes S.serves S.makes S.leaves_others S.paid (core_of port) (takes port want result) 0 side.old side.new }
+    ensures met { TakesUp port want result (S.view side.old (core_of port)) (S.view side.new (core_of port)) }
 {
-    if lane.open_fetch {
-        return;
-    }
-    let Some(addr) = engine.want_fetch() else {
-        return;
-    };
-    send(side, Port::Fetch(lane.core), Request::fetch(addr));
-    lane.open_fetch = true;
-}
-
-/// Takes the answer to the open access.
-fn take_access<E: CoreEngine, S: CoreSide>(engine: &E, side: &mut S, lane: &mut Lane) -> Option<u32>
-    requires serves { S.serves side.old lane.old.core }
-    requires coupled { IsCoupled None None (E.view engine.now) (S.view side.old lane.old.core) lane.old }
-    ensures serves { S.serves side.new lane.new.core }
-    ensures coupled { IsCoupled None result (E.view engine.now) (S.view side.new lane.new.core) lane.new }
-    ensures core { lane.new.core ≡ lane.old.core }
-    ensures fetch { lane.new.open_fetch ≡ lane.old.open_fetch }
-    ensures none { IfNone result (lane.new.open_access ≡ lane.old.open_access) }
-    ensures taken { (S.view side.new lane.old.core).taken ≡ (S.view side.old lane.old.core).taken ++ executed_by (E.view engine.now).core (E.view engine.now).access result }
-    ensures kept { KeepsSide (S.view side.old lane.old.core) (S.view side.new lane.old.core) }
-    ensures asks { UsesAsks lane.old.core 0 0 (S.view side.old lane.old.core) (S.view side.new lane.old.core) }
-    ensures still { StillWaits (S.view side.old lane.old.core).tells_distances ((S.view side.old lane.old.core).patience (Port.Access lane.old.core)) ((S.view side.new lane.old.core).patience (Port.Access lane.old.core)) lane.old.open_access lane.new.open_access }
-    ensures other { IsTrue (S.view side.old lane.old.core).tells_distances → (S.view side.new lane.old.core).patience (Port.Fetch lane.old.core) ≤ (S.view side.old lane.old.core).patience (Port.Fetch lane.old.core) }
-    ensures others { S.leaves_others lane.old.core side.old side.new }
-{
-    if !lane.open_access {
+    if want.is_none() {
         return None;
     }
-    let answer = side.take(Port::Access(lane.core));
-    match answer {
-        Some(word) => {
-            lane.open_access = false;
-            Some(word)
-        }
-        None => None,
-    }
+    side.take(port)
 }
 
-/// Takes the answer to the open fetch.
-fn take_fetch<E: CoreEngine, S: CoreSide>(
-    engine: &E,
-    side: &mut S,
-    lane: &mut Lane,
-    reply: Option<u32>,
-) -> Option<u32>
-    requires serves { S.serves side.old lane.old.core }
-    requires coupled { IsCoupled None reply (E.view engine.now) (S.view side.old lane.old.core) lane.old }
-    ensures serves { S.serves side.new lane.new.core }
-    ensures coupled { IsCoupled result reply (E.view engine.now) (S.view side.new lane.new.core) lane.new }
-    ensures core { lane.new.core ≡ lane.old.core }
-    ensures access { lane.new.open_access ≡ lane.old.open_access }
-    ensures none { IfNone result (lane.new.open_fetch ≡ lane.old.open_fetch) }
-    ensures kept { KeepsSide (S.view side.old lane.old.core) (S.view side.new lane.old.core) }
-    ensures taken { (S.view side.new lane.old.core).taken ≡ (S.view side.old lane.old.core).taken }
-    ensures asks { UsesAsks lane.old.core 0 0 (S.view side.old lane.old.core) (S.view side.new lane.old.core) }
-    ensures still { StillWaits (S.view side.old lane.old.core).tells_distances ((S.view side.old lane.old.core).patience (Port.Fetch lane.old.core)) ((S.view side.new lane.old.core).patience (Port.Fetch lane.old.core)) lane.old.open_fetch lane.new.open_fetch }
-    ensures other { IsTrue (S.view side.old lane.old.core).tells_distances → (S.view side.new lane.old.core).patience (Port.Access lane.old.core) ≤ (S.view side.old lane.old.core).patience (Port.Access lane.old.core) }
-    ensures others { S.leaves_others lane.old.core side.old side.new }
-{
-    if !lane.open_fetch {
-        return None;
-    }
-    let answer = side.take(Port::Fetch(lane.core));
-    match answer {
-        Some(word) => {
-            lane.open_fetch = false;
-            Some(word)
-        }
-        None => None,
-    }
-}
-
-/// Makes one step where a request is still open.
-fn step_if_open<E: CoreEngine, S: CoreSide>(
-    engine: &E,
-    side: &mut S,
-    lane: &Lane,
-    choice: u32,
-    fetched: Option<u32>,
-    reply: Option<u32>,
-)
+/// Makes one step where something is open.
+fn step_if_open<S: CoreSide>(side: &mut S, lane: &Lane, choice: u32) -> Option<Moved>
     requires serves { S.serves side.old lane.now.core }
-    requires coupled { IsCoupled fetched reply (E.view engine.now) (S.view side.old lane.now.core) lane.now }
-    ensures serves { S.serves side.new lane.now.core }
-    ensures coupled { IsCoupled fetched reply (E.view engine.now) (S.view side.new lane.now.core) lane.now }
-    ensures kept { KeepsSide (S.view side.old lane.now.core) (S.view side.new lane.now.core) }
-    ensures taken { (S.view side.new lane.now.core).taken ≡ (S.view side.old lane.now.core).taken }
-    ensures asks { UsesAsks lane.now.core 0 0 (S.view side.old lane.now.core) (S.view side.new lane.now.core) }
-    ensures fetch_waits { IsTrue (S.view side.old lane.now.core).tells_distances → lane.now.open_fetch ≡ true → (S.view side.new lane.now.core).patience (Port.Fetch lane.now.core) ≤ (S.view side.old lane.now.core).patience (Port.Fetch lane.now.core) - 1 }
-    ensures access_waits { IsTrue (S.view side.old lane.now.core).tells_distances → lane.now.open_access ≡ true → (S.view side.new lane.now.core).patience (Port.Access lane.now.core) ≤ (S.view side.old lane.now.core).patience (Port.Access lane.now.core) - 1 }
-    ensures others { S.leaves_others lane.now.core side.old side.new }
+    ensures made { Makes S.serves S.makes S.leaves_others S.paid lane.now.core (steps choice result) (moved_in result) side.old side.new }
+    ensures met { StepsOn lane.now.core (lane.now.open_access || lane.now.open_fetch) result (S.view side.old lane.now.core) (S.view side.new lane.now.core) }
 {
     if lane.open_access || lane.open_fetch {
-        side.step(choice);
+        Some(side.step(choice))
+    } else {
+        None
+    }
+}
+
+/// The request for the word of code that an engine waits for.
+fn wanted_fetch<E: CoreEngine>(engine: &E) -> Option<Request>
+    ensures want { result ≡ option_map fetch_of (E.view engine.now).fetch }
+{
+    match engine.want_fetch() {
+        Some(addr) => Some(Request::fetch(addr)),
+        None => None,
+    }
+}
+
+/// Whether something is wanted and didn't come.
+fn is_unmet(want: Option<Request>, answer: Option<u32>) -> bool
+    ensures unmet { result ≡ is_unmet want answer }
+{
+    want.is_some() && answer.is_none()
+}
+
+/// A cycle of a core but for the clock of its engine.
+fn meet<E: CoreEngine, S: CoreSide>(engine: &E, side: &mut S, lane: &mut Lane, choice: u32) -> Came
+    requires serves { S.serves side.old lane.old.core }
+    requires coupled { IsCoupled (E.view engine.now) (S.view side.old lane.old.core) lane.old }
+    requires asks { HasAsks (S.view side.old lane.old.core) lane.old }
+    ensures made { Makes S.serves S.makes S.leaves_others S.paid lane.old.core (cycle_calls choice (E.view engine.now) lane.old result) (moved_in result.step) side.old side.new }
+    ensures lane { lane.new ≡ lane_after (E.view engine.now) lane.old result }
+    ensures met { Meets (E.view engine.now) lane.old result (S.view side.old lane.old.core) (S.view side.new lane.old.core) }
+{
+    let core = lane.core;
+    let access = engine.want_access();
+    let fetch = wanted_fetch(engine);
+    open_port(side, Port::Access(core), lane.open_access, access);
+    open_port(side, Port::Fetch(core), lane.open_fetch, fetch);
+    let reply = take_answer(side, Port::Access(core), access);
+    let fetched = take_answer(side, Port::Fetch(core), fetch);
+    lane.open_access = is_unmet(access, reply);
+    lane.open_fetch = is_unmet(fetch, fetched);
+    let step = step_if_open(side, lane, choice);
+    Came {
+        reply,
+        fetched,
+        step,
     }
 }
 
@@ -224,59 +172,39 @@ pub fn cycle<E: CoreEngine, S: CoreSide>(
     ensures others { S.leaves_others lane.old.core side.old side.new }
     ensures cycle { (came : Came) × IsCycle E.view E.timed S.view S.makes S.paid choice came result engine.old engine.new side.old side.new lane.old lane.new }
 {
-    open_access(engine, side, lane);
-    open_fetch(engine, side, lane);
-    let reply = take_access(engine, side, lane);
-    let fetched = take_fetch(engine, side, lane, reply);
-    step_if_open(engine, side, lane, choice, fetched, reply);
-    engine.clock(fetched, reply)
+    let came = meet(engine, side, lane, choice);
+    engine.clock(came.fetched, came.reply)
 }
 
-/// Withdraws the open access, and ends the engine with what became of it.
-fn finish_access<E: CoreEngine, S: CoreSide>(engine: &mut E, side: &mut S, lane: &mut Lane)
-    requires serves { S.serves side.old lane.old.core }
-    requires coupled { IsCoupled None None (E.view engine.old) (S.view side.old lane.old.core) lane.old }
-    requires dead { StopsWhereDead (E.view engine.old) }
-    ensures serves { S.serves side.new lane.new.core }
-    ensures half { IsHalfFinished (E.view engine.new) (S.view side.new lane.new.core) lane.new }
-    ensures closed { lane.new.open_access ≡ false }
-    ensures still { lane.old.open_access ≡ false → engine.new ≡ engine.old }
-    ensures dead { (E.view engine.old).is_live ≡ false → lane.old.open_access ≡ false }
-    ensures core { lane.new.core ≡ lane.old.core }
-    ensures engine { KeepsEngine (E.view engine.old) (E.view engine.new) }
-    ensures kept { KeepsSide (S.view side.old lane.old.core) (S.view side.new lane.old.core) }
-    ensures taken { lane.old.open_access ≡ false → (S.view side.new lane.old.core).taken ≡ (S.view side.old lane.old.core).taken }
-    ensures others { S.leaves_others lane.old.core side.old side.new }
+/// Withdraws what is open on a port, and tells what has become of it: where nothing is open, there
+/// is no answer.
+fn close_port<S: CoreSide>(side: &mut S, port: Port, is_open: bool) -> Withdrawal
+    requires serves { S.serves side.old (core_of port) }
+    requires holds { (want : Option Request) × PortHolds is_open (mark ((S.view side.old (core_of port)).port port)) want }
+    ensures made { Makes S.serves S.makes S.leaves_others S.paid (core_of port) (withdraws is_open port result) 0 side.old side.new }
+    ensures met { (want : Option Request) → PortHolds is_open (mark ((S.view side.old (core_of port)).port port)) want
+        → Closes port is_open want result (S.view side.old (core_of port)) (S.view side.new (core_of port)) }
 {
-    if !lane.open_access {
+    if !is_open {
+        return Withdrawal::Withdrawn;
+    }
+    side.withdraw(port)
+}
+
+/// Ends an engine whose open access was withdrawn, with what has become of it.
+fn drain_open<E: CoreEngine>(engine: &mut E, is_open: bool, answer: Withdrawal)
+    requires sound { IsSound (E.view engine.old) }
+    requires live { is_open ≡ true → (E.view engine.old).is_live ≡ true }
+    requires wants { is_open ≡ true → IsSome (E.view engine.old).access }
+    ensures drained { IsDrained E.view E.timed is_open answer engine.old engine.new }
+{
+    if !is_open {
         return;
     }
-    let answer = side.withdraw(Port::Access(lane.core));
-    lane.open_access = false;
     match answer {
         Withdrawal::Withdrawn => engine.drain(None),
         Withdrawal::Answered(word) => engine.drain(Some(word)),
     }
-}
-
-/// Withdraws the open fetch.
-fn finish_fetch<E: CoreEngine, S: CoreSide>(engine: &E, side: &mut S, lane: &mut Lane)
-    requires serves { S.serves side.old lane.old.core }
-    requires half { IsHalfFinished (E.view engine.now) (S.view side.old lane.old.core) lane.old }
-    ensures serves { S.serves side.new lane.new.core }
-    ensures finished { IsFinished (E.view engine.now) (S.view side.new lane.new.core) lane.new.core }
-    ensures closed { lane.new.open_fetch ≡ false }
-    ensures access { lane.new.open_access ≡ lane.old.open_access }
-    ensures core { lane.new.core ≡ lane.old.core }
-    ensures kept { KeepsSide (S.view side.old lane.old.core) (S.view side.new lane.old.core) }
-    ensures taken { (S.view side.new lane.old.core).taken ≡ (S.view side.old lane.old.core).taken }
-    ensures others { S.leaves_others lane.old.core side.old side.new }
-{
-    if !lane.open_fetch {
-        return;
-    }
-    side.withdraw(Port::Fetch(lane.core));
-    lane.open_fetch = false;
 }
 
 /// The end of a core, at a stop or where its budget is spent: its open requests are withdrawn, and
@@ -292,6 +220,9 @@ pub fn finish<E: CoreEngine, S: CoreSide>(engine: &mut E, side: &mut S, lane: &m
     ensures others { S.leaves_others lane.old.core side.old side.new }
     ensures ending { (access : Withdrawal) × ((fetch : Withdrawal) × IsEnding E.view E.timed S.view S.makes S.paid access fetch engine.old engine.new side.old side.new lane.old lane.new) }
 {
-    finish_access(engine, side, lane);
-    finish_fetch(engine, side, lane);
+    let access = close_port(side, Port::Access(lane.core), lane.open_access);
+    let fetch = close_port(side, Port::Fetch(lane.core), lane.open_fetch);
+    drain_open(engine, lane.open_access, access);
+    lane.open_access = false;
+    lane.open_fetch = false;
 }

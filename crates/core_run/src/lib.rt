@@ -1,4 +1,15 @@
 //! Cores that run against a memory: one cycle of a core, its end, and cores that take turns.
+//!
+//! Laws that crates above cite:
+//!
+//! - `proofs/CycleLaws`: the pace at which a core's cycle serves its engine, and that it is no tighter
+//!   than the side behind it; where answers come at once, nothing is open behind it.
+//! - `proofs/DoneLaws`: what cores that have ended did is a run of the sequential machine.
+//! - `proofs/EndLaws`: the end that a cycle makes is one of its core, and the pace at which its engine
+//!   is served behind it.
+//! - `proofs/LeadLaws`: calls behind others lead on, and calls on what holds a memory are calls on it.
+//! - `proofs/PlainEndLaws`: the end of an unpipelined core whose answers all came at once is right.
+//! - `proofs/RunLaws`: a run of such cores is right.
 #![tactic(auto)]
 
 mod lane;

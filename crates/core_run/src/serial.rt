@@ -1,16 +1,14 @@
 //! Cores that take turns on one memory: in each round every core has one cycle, by rising number.
-ghost use Rattle.std.specs.Prelude.{◌≡◌, ◌≤◌, ◌<◌, ◌+◌, ◌++◌, ◌∷◌, ℕ, [], List, Option, Some, None, vec_len, vec_capacity, slice_get, length};
-ghost use Rattle.access_log.specs.declared.Entry.{Entry};
-ghost use Rattle.access_log.specs.Stamps.{Stamp, stamped, own_stamps};
+ghost use Rattle.std.specs.Prelude.{◌≡◌, ◌≤◌, ◌+◌, ℕ, [], List, Some, None, vec_len, vec_capacity, slice_get, length};
+ghost use Rattle.std.specs.List.{AllByRecursion};
 ghost use Rattle.timetable.specs.declared.CoreEnd.{CoreEnd};
+ghost use Rattle.timetable.specs.declared.End.{End};
+ghost use Rattle.mem_port.specs.Calls.{Call, Lead};
 ghost use Rattle.mem_port.specs.Memory.{IsLawful, IsFresh, IsAtOnce, Keeps, Settles};
+ghost use Rattle.mem_port.specs.Pace.{Pace, IsFirstPace};
 ghost use Rattle.mem_port.specs.Side.{LeavesOthers, ServesCore};
 ghost use Rattle.core_run.specs.Lanes.{IsClosed};
-ghost use Rattle.mem_port.specs.Calls.{Call, Lead};
-ghost use Rattle.mem_port.specs.Pace.{Pace, IsFirstPace};
-ghost use Rattle.std.specs.List.{AllByRecursion};
-ghost use Rattle.timetable.specs.declared.End.{End};
-ghost use Rattle.core_run.specs.Serial.{SeatAt, IsRun, AddsOwn, AreInTurns, AreAt, AreFirst, HasChoice, IsServedRun, IsEndOf, end_after};
+ghost use Rattle.core_run.specs.Serial.{SeatAt, IsRun, AreAt, AreFirst, HasChoice, Leads, IsServedAt, Receives, AreServed, IsServedRun, IsEndOf, end_after};
 ghost use Rattle.core_run.specs.declared.serial.Seat.{Seat};
 
 use crate::lane::{cycle, finish};
@@ -66,13 +64,13 @@ fn play<E: TimedEngine, M: MemoryCore>(memory: &mut M, seat: &mut Seat<E>, budge
     ensures at { (rounds : ℕ) → SeatAt seat.old.lane.core rounds budget (M.view memory.old) (E.view seat.old.engine) seat.old.lane seat.old.end seat.old.cycles
         → SeatAt seat.old.lane.core (rounds + 1) budget (M.view memory.new) (E.view seat.new.engine) seat.new.lane seat.new.end seat.new.cycles }
     ensures others { LeavesOthers seat.old.lane.core (M.view memory.old) (M.view memory.new) }
-    ensures timed { (rounds : ℕ) (stamps : List Stamp) → IsAtOnce (M.view memory.old)
+    ensures made { Leads M.makes memory.old memory.new }
+    ensures ended { (end : End) → seat.old.end ≡ Some end → memory.new ≡ memory.old }
+    ensures served { (rounds : ℕ) (pace : Pace)
         → SeatAt seat.old.lane.core rounds budget (M.view memory.old) (E.view seat.old.engine) seat.old.lane seat.old.end seat.old.cycles
-        → IsPunctual (E.view seat.old.engine) seat.old.lane seat.old.end
-        → E.timed (at_once seat.old.cycles stamps) seat.old.engine
-        → (more : List Entry) × (AddsOwn seat.old.lane.core more (M.view memory.old).history (M.view memory.new).history
-        × (IsPunctual (E.view seat.new.engine) seat.new.lane seat.new.end
-        × E.timed (at_once seat.new.cycles (stamps ++ stamped (rounds + 1) more)) seat.new.engine)) }
+        → IsServedAt E.view E.timed (M.view memory.old) seat.old.engine seat.old.lane seat.old.end seat.old.cycles pace
+        → (after : Pace) × (IsServedAt E.view E.timed (M.view memory.new) seat.new.engine seat.new.lane seat.new.end seat.new.cycles after
+        × (IsAtOnce (M.view memory.old) → Receives seat.old.lane.core (rounds + 1) (M.view memory.old).history (M.view memory.new).history pace after)) }
 {
     if seat.end.is_some() {
         return;
@@ -98,12 +96,11 @@ fn play_round<E: TimedEngine, M: MemoryCore>(memory: &mut M, seats: &mut Vec<Sea
         → AreAt E.view rounds budget (M.view memory.old) seats.old.items
         → AreAt E.view (rounds + 1) budget (M.view memory.new) seats.new.items }
     ensures kept { Keeps (M.view memory.old) (M.view memory.new) }
-    ensures timed { (rounds : ℕ) (stamps : List Stamp) → IsAtOnce (M.view memory.old)
+    ensures made { Leads M.makes memory.old memory.new }
+    ensures served { (rounds : ℕ) (paces : ℕ → Pace)
         → AreAt E.view rounds budget (M.view memory.old) seats.old.items
-        → AreInTurns rounds 0 (M.view memory.old).history stamps
-        → AreUnstalled E.view E.timed stamps seats.old.items
-        → (after : List Stamp) × (AreInTurns (rounds + 1) 0 (M.view memory.new).history after
-        × AreUnstalled E.view E.timed after seats.new.items) }
+        → AreServed E.view E.timed rounds 0 (M.view memory.old) seats.old.items paces
+        → (after : ℕ → Pace) × AreServed E.view E.timed (rounds + 1) 0 (M.view memory.new) seats.new.items after }
 {
     for place in 0..seats.len() {
         let seat = &mut seats[place];
@@ -120,11 +117,10 @@ fn play_all<E: TimedEngine, M: MemoryCore>(memory: &mut M, seats: &mut Vec<Seat<
     ensures cores { vec_len seats.new ≡ vec_len seats.old }
     ensures seats { AreAt E.view budget budget (M.view memory.new) seats.new.items }
     ensures kept { Keeps (M.view memory.old) (M.view memory.new) }
-    ensures timed { (stamps : List Stamp) → IsAtOnce (M.view memory.old)
-        → AreInTurns 0 0 (M.view memory.old).history stamps
-        → AreUnstalled E.view E.timed stamps seats.old.items
-        → (after : List Stamp) × (AreInTurns budget 0 (M.view memory.new).history after
-        × AreUnstalled E.view E.timed after seats.new.items) }
+    ensures made { Leads M.makes memory.old memory.new }
+    ensures served { (paces : ℕ → Pace)
+        → AreServed E.view E.timed 0 0 (M.view memory.old) seats.old.items paces
+        → (after : ℕ → Pace) × AreServed E.view E.timed budget 0 (M.view memory.new) seats.new.items after }
 {
     for _ in 0..budget {
         play_round(memory, seats, budget);

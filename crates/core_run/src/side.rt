@@ -6,7 +6,7 @@ ghost use Rattle.mem_port.specs.declared.port.PortState.TheVariants.{Free, Asked
 ghost use Rattle.mem_port.specs.Ports.{core_of, MayAsk};
 ghost use Rattle.mem_port.specs.Calls.{Call, Ask, Serve, Step, Take, Withdraw};
 ghost use Rattle.mem_port.specs.Side.{SideView, Served, mark, Holds, SideAsks, SideServes, SideSteps, SideTakes, SideWithdraws, LeavesOthers, Paid, steps_in, ServesCore, side_of};
-ghost use Rattle.mem_port.proofs.SideLaws.{stays-view, goes_on-view, paid-twice};
+ghost use Rattle.mem_port.proofs.SideLaws.{stays-view, goes_on-view, leaves-paid, paid-twice};
 
 use access_log::Request;
 use mem_port::{MemoryCore, Moved, Port, Withdrawal};
@@ -87,6 +87,9 @@ pub trait CoreSide {
     /// So do two calls, one after the other.
     ghost goes_on: { (core : ℕ) (s t u : Self) → leaves_others core s t → leaves_others core t u → leaves_others core s u };
 
+    /// No call makes no step.
+    ghost at_rest: { (core : ℕ) (s : Self) → paid core 0 s s };
+
     /// Their steps add up.
     ghost adds_up: { (core j k : ℕ) (s t u : Self) → leaves_others core s t → paid core j s t → paid core k t u → paid core (j + k) s u };
 }
@@ -125,6 +128,8 @@ impl<M: MemoryCore> CoreSide for &mut M {
     ghost stays = { λ core s. (stays-view core (M.view s.now), refl) };
 
     ghost goes_on = { λ core s t u h k. (goes_on-view core (M.view s.now) (M.view t.now) (M.view u.now) h.0 k.0, k.1 ∙ h.1) };
+
+    ghost at_rest = { λ core s. leaves-paid core (M.view s.now) (M.view s.now) (stays-view core (M.view s.now)) };
 
     ghost adds_up = { λ core j k s t u h p q. paid-twice core j k (M.view s.now) (M.view t.now) (M.view u.now) p q h.0.kept };
 }

@@ -52,7 +52,8 @@ still_waiting : {a b : PortState} → Evolves a b → IsWaiting b → IsWaiting 
 still_waiting {a} {b} (inl e) h = waiting_along e h
 still_waiting {a} {b} (inr s) h = absurd (not_waiting s.1.1.1 h)
 
-evolves-twice : {a b d : PortState} → Evolves a b → Evolves b d → Evolves a d
+-- A port that is as one was that is as another was is as that was.
+pub evolves-twice : {a b d : PortState} → Evolves a b → Evolves b d → Evolves a d
 evolves-twice {a} {b} {d} (inl e) (inl f) = inl (f ∙ e)
 evolves-twice {a} {b} {d} (inl e) (inr s) = inr (s.0, (s.1.0, (sym e ∙ s.1.1.0, s.1.1.1)))
 evolves-twice {a} {b} {d} (inr s) (inl f) = inr (s.0, (s.1.0, (s.1.1.0, f ∙ s.1.1.1)))
@@ -260,7 +261,7 @@ withdraws-leaves (withdrawal.Answered word) p old new h = leaves-leaves p Closed
 
 -- Who pays for steps.
 
-leaves-paid : (core : ℕ) (old new : MemoryView) → LeavesOthers core old new → Paid core 0 old new
+pub leaves-paid : (core : ℕ) (old new : MemoryView) → LeavesOthers core old new → Paid core 0 old new
 leaves-paid core old new h t = let e = h.load t in omega (arith, e)
 
 pub asks-paid : (p : Port) (r : Request) (old new : MemoryView) → Asks p r old new → Paid (core_of p) 0 old new

@@ -1,6 +1,6 @@
 use Rattle.std.proofs.Common.{arith, refl, ◌∙◌, ◌≡◌}
 use Rattle.mem_port.proofs.SideLaws.{stays-view, kept_twice}
-use Rattle.core_run.proofs.RoundLemmas.{once-kept}
+use Rattle.core_run.proofs.TurnLemmas.{leads-none, leads-twice}
 use Rattle.core_run.proofs.serial.play_all.Goals as goal
 
 pub loop-init : goal.loop-init
@@ -9,7 +9,8 @@ loop-init g c = record {
   kept = (stays-view 0 _).kept;
   count = refl;
   seats = c.requires.seats;
-  timed = λ stamps once order all. (stamps, (order, all));
+  made = leads-none g.M.MemoryCore.makes _;
+  served = λ paces served. (paces, served);
 }
 
 pub loop-preserved : goal.loop-preserved
@@ -21,12 +22,16 @@ loop-preserved g c =
       kept = kept_twice l.invariant.kept f.kept;
       count = f.cores ∙ l.invariant.count;
       seats = f.seats l.counter l.invariant.seats;
-      timed = λ stamps once order all.
-          (let h = l.invariant.timed stamps once order all in
-          f.timed l.counter h.0 (once-kept l.invariant.kept once) l.invariant.seats h.1.0 h.1.1);
+      made = leads-twice g.M.MemoryCore.makes c.args.memory.now l.memory c.play_round.new.memory l.invariant.made f.made;
+      served = λ paces served. (let h = l.invariant.served paces served in f.served l.counter h.0 l.invariant.seats h.1);
     }
 
 pub returns-clause-seats : goal.returns-clause-seats
 returns-clause-seats g c core s got =
     let done : c.loop.counter ≡ c.args.budget = omega arith in
     rw done at c.loop.invariant.seats core s got
+
+pub returns-clause-served : goal.returns-clause-served
+returns-clause-served g c paces served =
+    let done : c.loop.counter ≡ c.args.budget = omega arith in
+    rw done at c.loop.invariant.served paces served

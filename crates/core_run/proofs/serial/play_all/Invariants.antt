@@ -1,8 +1,8 @@
-use Rattle.std.proofs.Common.{◌≡◌, List, vec_len}
-use Rattle.access_log.specs.Stamps.{Stamp}
-use Rattle.mem_port.specs.Memory.{IsLawful, IsAtOnce, Keeps}
-use Rattle.core_run.specs.Serial.{AreInTurns}
-use Rattle.core_run.proofs.RoundLemmas.{AreSeated, AreTimed}
+use Rattle.std.proofs.Common.{◌≡◌, ℕ, vec_len}
+use Rattle.mem_port.specs.Memory.{IsLawful, Keeps}
+use Rattle.mem_port.specs.Pace.{Pace}
+use Rattle.core_run.specs.Serial.{Leads, AreServed}
+use Rattle.core_run.proofs.RoundLemmas.{AreSeated}
 use Rattle.core_run.proofs.serial.play_all.Given as goal
 
 abbrev pub invariant-loop : goal.invariant-loop
@@ -15,6 +15,7 @@ invariant-loop g l =
       kept : Keeps old new;
       count : vec_len l.seats ≡ vec_len l.fn.seats;
       seats : AreSeated view (λ core. l.counter) l.budget new l.seats.items;
-      timed : (stamps : List Stamp) → IsAtOnce old → AreInTurns 0 0 old.history stamps → AreTimed view g.E.CoreEngine.timed stamps l.fn.seats.items
-          → (after : List Stamp) × (AreInTurns l.counter 0 new.history after × AreTimed view g.E.CoreEngine.timed after l.seats.items);
+      made : Leads g.M.MemoryCore.makes l.fn.memory l.memory;
+      served : (paces : ℕ → Pace) → AreServed view g.E.CoreEngine.timed 0 0 old l.fn.seats.items paces
+          → (after : ℕ → Pace) × AreServed view g.E.CoreEngine.timed l.counter 0 new l.seats.items after;
     }

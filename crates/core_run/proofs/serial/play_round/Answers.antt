@@ -1,9 +1,8 @@
 use Rattle.std.proofs.Common.{rules, arith, refl, ◌<◌, ℕ, length}
 use Rattle.std.proofs.lemmas.Option.{slice_get_read}
-use Rattle.access_log.specs.Stamps.{own_stamps}
 use Rattle.mem_port.proofs.SideLaws.{stays-view, kept_twice}
-use Rattle.core_run.proofs.RoundLemmas.{AreSeated, at-own, once-kept, seat-now, seats-start, seats-turn, seats-round, timed-turn}
-use Rattle.core_run.proofs.StampLemmas.{after-round}
+use Rattle.core_run.proofs.RoundLemmas.{AreSeated, at-own, seat-now, seats-start, seats-turn, seats-round, served-turn, served-round}
+use Rattle.core_run.proofs.TurnLemmas.{leads-none, leads-twice}
 use Rattle.core_run.proofs.serial.play_round.Goals as goal
 
 pub loop-place-init : goal.loop-place-init
@@ -12,7 +11,8 @@ loop-place-init g c = record {
   kept = (stays-view 0 _).kept;
   count = refl;
   seats = λ rounds start. seats-start g.E.CoreEngine.view rounds c.args.budget _ c.args.seats.now.items start;
-  timed = λ rounds stamps once start order all. (stamps, (order, all));
+  made = leads-none g.M.MemoryCore.makes _;
+  served = λ rounds paces start served. (paces, served);
 }
 
 pub play-requires-clause-serves : goal.play-requires-clause-serves
@@ -46,18 +46,18 @@ loop-place-preserved g c =
       count = l.invariant.count;
       seats = λ rounds start.
           seats-turn g.E.CoreEngine.view rounds c.args.budget _ _ l.seats.items l.place s.lane.core c.play.new.seat inside is f.others (f.at rounds (at rounds start)) (l.invariant.seats rounds start);
-      timed = λ rounds stamps once start order all.
-          (let h = l.invariant.timed rounds stamps once start order all in
-          let now = h.1.1 l.place s got in
-          timed-turn g.E.CoreEngine.view g.E.CoreEngine.timed rounds _ _ h.0 l.seats.items l.place s.lane.core c.play.new.seat inside is h.1.0 h.1.1
-          (f.timed rounds (own_stamps h.0 l.place) (once-kept l.invariant.kept once) (at rounds start) now.0 now.1));
+      made = leads-twice g.M.MemoryCore.makes c.args.memory.now l.memory c.play.new.memory l.invariant.made f.made;
+      served = λ rounds paces start served.
+          (let h = l.invariant.served rounds paces start served in
+          served-turn g.E.CoreEngine.view g.E.CoreEngine.timed rounds c.args.budget _ _ l.seats.items l.place s.lane.core c.play.new.seat h.0 inside is f.others (l.invariant.seats rounds start) h.1
+          (f.served rounds (h.0 l.place) (at rounds start) (h.1.each l.place s got)));
     }
 
 pub returns-clause-seats : goal.returns-clause-seats
 returns-clause-seats g c rounds start =
     seats-round g.E.CoreEngine.view rounds c.args.budget _ c.loop-place.seats.items c.loop-place.place (search rules) (c.loop-place.invariant.seats rounds start)
 
-pub returns-clause-timed : goal.returns-clause-timed
-returns-clause-timed g c rounds stamps once start order all =
-    let h = c.loop-place.invariant.timed rounds stamps once start order all in
-    (h.0, (after-round rounds c.loop-place.place _ h.0 h.1.0, h.1.1))
+pub returns-clause-served : goal.returns-clause-served
+returns-clause-served g c rounds paces start served =
+    let h = c.loop-place.invariant.served rounds paces start served in
+    (h.0, served-round g.E.CoreEngine.view g.E.CoreEngine.timed rounds c.loop-place.place _ c.loop-place.seats.items h.0 h.1)

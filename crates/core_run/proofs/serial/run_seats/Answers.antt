@@ -1,9 +1,9 @@
-use Rattle.std.proofs.Common.{arith, sym, ◌∙◌, []}
+use Rattle.std.proofs.Common.{arith, sym, ◌∙◌}
 use Rattle.std.proofs.lemmas.Option.{slice_get_within}
 use Rattle.core_run.proofs.SerialLemmas.{start-seat}
-use Rattle.core_run.proofs.StampLemmas.{in-turns-start}
-use Rattle.core_run.proofs.RoundLemmas.{timed-start}
-use Rattle.core_run.proofs.RunLemmas.{seat-over, ends-done, ports-rest, run-is, entries-settled, ends-timed}
+use Rattle.core_run.proofs.RoundLemmas.{served-first}
+use Rattle.core_run.proofs.DoneLaws.{ports-rest, run-is, entries-settled}
+use Rattle.core_run.proofs.RunLemmas.{seat-over, ends-done, ends-served}
 use Rattle.core_run.proofs.serial.run_seats.Goals as goal
 
 pub play_all-requires-clause-seats : goal.play_all-requires-clause-seats
@@ -29,10 +29,16 @@ returns-clause-run g c =
     (ends-done g.E.CoreEngine.view g.E.TimedEngine.rows c.args.budget _ _ c.gather.new.ends.items f.seats c.gather.ensures.ends)
     _ _ f.lawful c.settle-words.ensures.settles)
 
-pub returns-clause-timed : goal.returns-clause-timed
-returns-clause-timed g c once tells =
+pub returns-clause-made : goal.returns-clause-made
+returns-clause-made g c =
+    let made = c.play_all.ensures.made in
+    (c.play_all.new.memory, (made.0, (made.1.0, (made.1.1, c.settle-words.ensures.settles))))
+
+pub returns-clause-served : goal.returns-clause-served
+returns-clause-served g c tells =
     let f = c.play_all.ensures in
-    let h = f.timed [] once (in-turns-start _ c.requires.fresh.history)
-    (timed-start g.E.CoreEngine.view g.E.CoreEngine.timed _ _ _ c.args.seats.items c.requires.seats tells) in
-    ends-timed g.E.CoreEngine.view g.E.TimedEngine.rows g.E.CoreEngine.timed _ _ c.args.budget _ h.0 _ c.gather.new.ends.items f.kept (entries-settled c.settle-words.ensures.settles)
-    f.seats c.gather.ensures.ends h.1.0 h.1.1
+    let h = f.served _ (served-first g.E.CoreEngine.view g.E.CoreEngine.timed _ c.args.budget c.args.seats.items c.requires.fresh c.requires.seats tells) in (
+      h.0,
+      ends-served g.E.CoreEngine.view g.E.TimedEngine.rows g.E.CoreEngine.timed _ _ c.args.budget _ _ _ c.gather.new.ends.items h.0 f.kept (c.gather.ensures.count ∙ (f.cores ∙ c.requires.cores))
+          (entries-settled c.settle-words.ensures.settles) f.seats c.gather.ensures.ends h.1,
+    )
