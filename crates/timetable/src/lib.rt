@@ -1,7 +1,7 @@
 //! What a run leaves: where each core ended, after how many cycles, and what was done.
 #![tactic(auto)]
 
-ghost use Rattle.std.specs.Prelude.{◌≡◌};
+ghost use Rattle.std.specs.Prelude.{◌≡◌, ◌≤◌};
 
 mod rows;
 

@@ -12,6 +12,7 @@ run_seats-requires-clause-fresh c =
       history = fresh.history;
       ports = fresh.ports;
       asks_left = λ q within. fresh.asks_left q (omega (arith, within, fresh.cores_are));
+      idle = fresh.idle;
     }
 
 pub run_seats-requires-clause-cores : goal.run_seats-requires-clause-cores
