@@ -1,5 +1,5 @@
 -- Cores at work on a memory: before their first cycles, and while others have theirs.
-use Rattle.std.proofs.Common.{◌≡◌, ◌≢◌, ℕ, ◌<◌, ◌≤◌, None, option_map, refl, sym, ◌∙◌, subst, arith}
+use Rattle.std.proofs.Common.{◌≡◌, ◌≢◌, ℕ, ◌<◌, None, option_map, refl, sym, ◌∙◌, subst, arith}
 use Rattle.image_file.specs.Value.{ImageValue}
 use Rattle.access_log.specs.Requests.{fetch_of}
 use Rattle.mem_port.specs.declared.port.Port.TheVariants.{Fetch, Access}

@@ -1,4 +1,4 @@
-use Rattle.std.proofs.Common.{arith, refl}
+use Rattle.std.proofs.Common.{arith}
 use Rattle.machine_tests.proofs.AtWorkLaws.{works-first}
 use Rattle.machine_tests.proofs.cycles.check_both.Goals as goal
 
