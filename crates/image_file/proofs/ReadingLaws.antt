@@ -11,7 +11,8 @@ use Rattle.std.proofs.lemmas.Nat.{le_bytes_4}
 use Rattle.mips_isa.specs.Fields.{instr_of}
 use Rattle.image_file.specs.declared.fault.ImageCause.{ImageCause}
 use Rattle.image_file.specs.Value.{ImageValue, SegmentValue, segment_numbers, image_numbers, image_bytes, memory_bytes, AreApart, IsGood}
-use Rattle.image_file.specs.Reading.{◌>>=◌, Fault, judged, number_in, magic_in, lines_in, code_count_in, may_stand, word_in, words_in, fits, segment_in, end_of, segments_in, image_in}
+use Rattle.kmp_base.specs.Bind.{◌>>=◌}
+use Rattle.image_file.specs.Reading.{Fault, judged, number_in, magic_in, lines_in, code_count_in, may_stand, word_in, words_in, fits, segment_in, end_of, segments_in, image_in}
 use Rattle.image_file.proofs.CodeLaws.{is_code}
 use Rattle.image_file.proofs.SpellingLaws.{number_bytes}
 

@@ -4,7 +4,8 @@ use Rattle.std.proofs.lemmas.List.{append-nil}
 use Rattle.image_file.specs.declared.field.FieldFault.{FieldFault}
 use Rattle.image_file.specs.declared.field.FieldFault.TheVariants as fields
 use Rattle.image_file.specs.Value.{SegmentValue}
-use Rattle.image_file.specs.Reading.{◌>>=◌, Fault, word_in, words_in, segment_in, segments_in, end_of, Fails}
+use Rattle.kmp_base.specs.Bind.{◌>>=◌}
+use Rattle.image_file.specs.Reading.{Fault, word_in, words_in, segment_in, segments_in, end_of, Fails}
 
 -- what was read before, and what is still read
 abbrev pub with_front : {A : Type 0} → List A → Result (List A × List ℕ) Fault → Result (List A × List ℕ) Fault

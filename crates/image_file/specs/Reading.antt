@@ -1,6 +1,7 @@
 -- What bytes mean as an image, or their first fault.
 use Rattle.std.specs.Prelude.{◌≡◌, ℕ, zero, suc, ◌+◌, ◌-◌, ◌*◌, ◌%◌, ◌^◌, Bool, true, false, not, ◌==◌, ◌&&◌, ◌||◌, nat_le, if◌then◌else◌, List, [], ◌∷◌, length, Result, Ok, Err, is_some}
 use Rattle.std.specs.Int.{w32, from_le_bytes}
+use Rattle.kmp_base.specs.Bind.{◌>>=◌}
 use Rattle.mips_isa.specs.Fields.{instr_of}
 use Rattle.image_file.specs.declared.fault.ImageCause.{ImageCause}
 use Rattle.image_file.specs.declared.fault.ImageCause.TheVariants.{BadMagic, Truncated, OddCode, BadWord, Overlap, DoesNotFit, Trailing}
@@ -9,12 +10,6 @@ use Rattle.image_file.specs.declared.fault.ImageFault.TheVariants as faults
 use Rattle.image_file.specs.declared.field.FieldFault.{FieldFault}
 use Rattle.image_file.specs.declared.field.FieldFault.TheVariants as fields
 use Rattle.image_file.specs.Value.{ImageValue, SegmentValue}
-
-infixl 10 ◌>>=◌
--- the first fault answers
-abbrev pub ◌>>=◌ : {A B E : Type 0} → Result A E → (A → Result B E) → Result B E
-(Ok x) >>= f = f x
-(Err e) >>= f = Err e
 
 -- A fault of a field, and how many bytes are left from its first byte on.
 abbrev pub Fault : Type 0

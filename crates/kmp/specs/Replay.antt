@@ -6,7 +6,10 @@ use Rattle.access_log.specs.declared.field.Field.{Field}
 use Rattle.access_log.specs.declared.field.Field.TheVariants as fields
 use Rattle.access_log.specs.declared.field.Found.{Found}
 use Rattle.access_log.specs.declared.field.Found.TheVariants as founds
-use Rattle.report_rows.specs.Names.{kind_name, letter_name, stop_name}
+use Rattle.mips_isa.specs.Names.{kind_name, stop_name}
+use Rattle.timetable.specs.declared.End.TheVariants as ends
+use Rattle.timetable.specs.Names.{end_name}
+use Rattle.report_rows.specs.Names.{letter_name}
 use Rattle.replayer.specs.declared.Difference.{Difference}
 
 -- the stages of a pipeline have upper-case letters
@@ -47,7 +50,7 @@ found_text (founds.Hex word) = hex8 word
 found_text (founds.Kind kind) = kind_name kind
 found_text (founds.Letter letter) = letter_name letter
 found_text (founds.End (Some stop)) = stop_name stop
-found_text (founds.End None) = codes "spent"
+found_text (founds.End None) = end_name ends.Spent
 found_text (founds.Word addr value) = hex8 addr ++ codes ":" ++ hex8 value
 found_text (founds.Set caches) = hex4 caches
 found_text founds.Nothing = codes "-"

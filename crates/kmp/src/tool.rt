@@ -22,12 +22,9 @@ use kmp_base::{InputFault, Setup, Sink, Source, WriteFault, read_input};
 use kmp_call::{Status, bad_row, refuse_input, refuse_words, too_long, write_row, write_run};
 use kmp_words::{Input, LoadFault, Order, load, read_words};
 use replayer::{Verdict, check};
-use report_read::{ReportFault, read_report};
+use report_read::{REPORT_LIMIT, ReportFault, read_report};
 use report_text::Report;
 use std::alloc::Global;
-
-/// The most bytes of a report that is checked.
-const REPORT_LIMIT: usize = 268_435_456;
 
 // Writes the bytes of an image.
 fn write<K: Sink>(image: &Image, sink: &mut K) -> Status

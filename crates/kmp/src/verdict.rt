@@ -5,7 +5,8 @@ ghost use Rattle.kmp.specs.Replay.{field_name, found_text, agrees_row, differenc
 use access_log::{Field, Found};
 use kmp_base::Row;
 use replayer::Difference;
-use report_rows::{kind_name, letter_name, stop_name};
+use report_rows::letter_name;
+use timetable::End;
 
 /// The field of an access, a transaction, an end or a memory in words.
 fn field_name(field: Field) -> &'static str
@@ -65,10 +66,10 @@ fn add_found(row: &mut Row, found: Found)
     match found {
         Found::Number(n) => row.decimal(n),
         Found::Hex(word) => row.hex8(word),
-        Found::Kind(kind) => row.text(kind_name(kind)),
+        Found::Kind(kind) => row.text(kind.name()),
         Found::Letter(letter) => row.text(letter_name(letter)),
-        Found::End(Some(stop)) => row.text(stop_name(stop)),
-        Found::End(None) => row.text("spent"),
+        Found::End(Some(stop)) => row.text(stop.name()),
+        Found::End(None) => row.text(End::Spent.name()),
         Found::Word(addr, value) => add_word(row, addr, value),
         Found::Set(caches) => row.hex4(caches),
         Found::Nothing => row.text("-"),

@@ -4,3 +4,5 @@ pub mod Text
 pub mod Rows
 pub mod Limits
 pub mod Memory
+pub mod Names
+pub mod Bind

@@ -4,6 +4,7 @@
 #![tactic(auto)]
 
 mod memory;
+mod names;
 mod numbers;
 mod row;
 mod setup;
@@ -12,6 +13,7 @@ mod streams;
 mod transfer;
 
 pub use memory::{MemorySink, MemorySource};
+pub use names::named;
 pub use numbers::{decimal_of, hex8_of};
 pub use row::{ROOM, Row};
 pub use setup::{MOST_BUDGET, MOST_CORES, MOST_SETS, MOST_WAYS, MachineKind, Policy, Setup, Turns};

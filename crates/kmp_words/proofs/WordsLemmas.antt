@@ -19,7 +19,8 @@ use Rattle.kmp_words.specs.declared.options.OptionName.TheVariants as names
 use Rattle.asm_parse.specs.Tables.{found_in}
 use Rattle.kmp_words.specs.declared.fault.WordFault.{WordFault}
 use Rattle.kmp_words.specs.declared.fault.WordCause.TheVariants.{UnknownOption, OptionTwice, BadValue}
-use Rattle.kmp_words.specs.Words.{◌>>=◌, name_in, value_in, number_in, lines_of, no_options, options_of, stands_in, with_option, at_word, fault_where, option_in, options_from, number_within, machine_names, turns_names, or_default, setup_of, memory_lines, order_of, texts_of, IsProperInput, IsRunnableSetup, IsRunnable}
+use Rattle.kmp_base.specs.Bind.{◌>>=◌}
+use Rattle.kmp_words.specs.Words.{name_in, value_in, number_in, lines_of, no_options, options_of, stands_in, with_option, at_word, fault_where, option_in, options_from, number_within, machine_names, turns_names, or_default, setup_of, memory_lines, order_of, texts_of, IsProperInput, IsRunnableSetup, IsRunnable}
 
 same : (text : List ℕ) → bytes_eq text text ≡ true
 same text = grind (arith, bytes_eq-Decides)

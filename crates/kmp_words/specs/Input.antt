@@ -9,7 +9,7 @@ use Rattle.asm_token.specs.declared.fault.AsmFault.{AsmFault}
 use Rattle.asm_token.specs.declared.fault.AsmFault.TheVariants as assembler
 use Rattle.asm_parse.specs.Lines.{statements_of}
 use Rattle.asm_link.specs.Assembly.{image_of}
-use Rattle.kmp_words.specs.Words.{◌>>=◌}
+use Rattle.kmp_base.specs.Bind.{◌>>=◌}
 use Rattle.kmp_words.specs.declared.input.Input.{Input}
 use Rattle.kmp_words.specs.declared.input.Input.TheVariants as inputs
 use Rattle.kmp_words.specs.declared.input.Refusal.{Refusal}

@@ -4,6 +4,8 @@ use Rattle.std.specs.Borrow.{Bor}
 use Rattle.std.specs.Option.{ok_or, option_map_or}
 use Rattle.std.specs.Str.{bytes_eq}
 use Rattle.std.specs.Str.Parse.{digits_value}
+use Rattle.kmp_base.specs.Bind.{◌>>=◌}
+use Rattle.kmp_base.specs.Names.{with_names, machine_name, turns_name}
 use Rattle.kmp_base.specs.declared.setup.Setup.{Setup}
 use Rattle.kmp_base.specs.declared.setup.MachineKind.{MachineKind}
 use Rattle.kmp_base.specs.declared.setup.MachineKind.TheVariants as machines
@@ -24,12 +26,6 @@ use Rattle.kmp_words.specs.declared.options.Options.{Options}
 use Rattle.kmp_words.specs.declared.fault.WordFault.{WordFault}
 use Rattle.kmp_words.specs.declared.fault.WordCause.{WordCause}
 use Rattle.kmp_words.specs.declared.fault.WordCause.TheVariants.{NoCommand, UnknownCommand, UnknownOption, OptionTwice, BadValue, Excluded}
-
-infixl 10 ◌>>=◌
--- the first fault answers
-abbrev pub ◌>>=◌ : {A B E : Type 0} → Result A E → (A → Result B E) → Result B E
-(Ok x) >>= f = f x
-(Err e) >>= f = Err e
 
 -- the bytes of the words
 abbrev pub texts_of : List (Bor (List ℕ)) → List (List ℕ)
@@ -76,10 +72,10 @@ number_within least most text =
     option_and_then (λ number. if nat_le least number && nat_le number most then Some number else None) (number_in text)
 
 abbrev pub machine_names : List (List ℕ × MachineKind)
-machine_names = (codes "plain", machines.Plain) ∷ []
+machine_names = with_names machine_name (machines.Plain ∷ [])
 
 abbrev pub turns_names : List (List ℕ × Turns)
-turns_names = (codes "round", turns.Round) ∷ []
+turns_names = with_names turns_name (turns.Round ∷ [])
 
 -- no option
 abbrev pub no_options : Options

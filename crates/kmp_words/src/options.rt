@@ -3,7 +3,7 @@ ghost use Rattle.std.specs.Prelude.{◌≡◌, option_and_then, option_copied};
 ghost use Rattle.asm_parse.specs.Tables.{found_in};
 ghost use Rattle.kmp_words.specs.Words.{command_names, options_of, number_in, lines_of, number_within, machine_names, turns_names, stands_in, with_option, excluded_at, memory_lines, setup_of};
 
-use kmp_base::{MachineKind, Policy, Setup, Turns, decimal_of};
+use kmp_base::{MOST_BUDGET, MOST_CORES, MachineKind, Policy, Setup, Turns, decimal_of, named};
 
 #[derive(Clone, Copy)]
 pub enum Command {
@@ -95,20 +95,19 @@ fn asm_option(name: &str) -> Option<OptionName>
 fn machine_named(name: &str) -> Option<MachineKind>
     ensures value { result ≡ found_in machine_names name.now }
 {
-    match name {
-        "plain" => Some(MachineKind::Plain),
-        _ => None,
-    }
+    let machines = [MachineKind::Plain];
+    named(
+        &machines.map(|machine| (machine.name(), machine)),
+        name.as_bytes(),
+    )
 }
 
 /// The turns that have a name.
 fn turns_named(name: &str) -> Option<Turns>
     ensures value { result ≡ found_in turns_names name.now }
 {
-    match name {
-        "round" => Some(Turns::Round),
-        _ => None,
-    }
+    let turns = [Turns::Round];
+    named(&turns.map(|turns| (turns.name(), turns)), name.as_bytes())
 }
 
 /// The number that a text spells, where it is within bounds.
@@ -177,11 +176,11 @@ impl Options {
                 ..self
             }),
             (OptionName::Cores, Some(text)) => Some(Options {
-                cores: Some(number_within(1, 8, text)?),
+                cores: Some(number_within(1, MOST_CORES, text)?),
                 ..self
             }),
             (OptionName::Budget, Some(text)) => Some(Options {
-                budget: Some(number_within(1, 100_000, text)?),
+                budget: Some(number_within(1, MOST_BUDGET, text)?),
                 ..self
             }),
             (OptionName::Turns, Some(text)) => Some(Options {

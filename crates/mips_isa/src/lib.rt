@@ -6,6 +6,7 @@
 #![tactic(auto)]
 
 pub mod effects;
+mod names;
 pub mod steps;
 pub mod words;
 

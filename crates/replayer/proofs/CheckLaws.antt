@@ -12,7 +12,7 @@ use Rattle.report_text.specs.Report.{ReportValue}
 use Rattle.report_text.specs.Form.{IsReport}
 use Rattle.report_text.specs.Right.{IsRightReport}
 use Rattle.replayer.specs.declared.Difference.{Difference}
-use Rattle.replayer.specs.Judgments.{first_difference}
+use Rattle.replayer.specs.Judgments.{first_told}
 use Rattle.replayer.specs.Outcome.{machine_of, outcome_judged}
 use Rattle.replayer.specs.Difference.{IsDifference}
 use Rattle.replayer.proofs.OnlyLaws.{entry_difference_is_none}
@@ -28,7 +28,7 @@ different_is_wrong report difference is (inl h) right =
 different_is_wrong report difference is (inr h) right =
     let agrees = right_has_no_difference report is right in
     let machine : agrees.0 ≡ h.machine = same_Some agrees.0 h.machine (sym agrees.1 ∙ h.made) in
-    none-some difference (sym agrees.2 ∙ ap (λ (m : FlatMachine). first_difference (outcome_judged report m)) machine ∙ h.first)
+    none-some difference (sym agrees.2 ∙ ap (λ (m : FlatMachine). first_told (outcome_judged report m)) machine ∙ h.first)
 
 -- ---- the machine at the start, and when it has made the accesses
 
@@ -55,11 +55,11 @@ items_within report items start is items_are start_is =
 -- what is told behind accesses that the machine makes
 
 pub none_told : (report : ReportValue) (machine : FlatMachine) (told : Option Difference) → IsReport report → entered_all (entries report.items) (machine_of report) ≡ Some machine
-    → told ≡ first_difference (outcome_judged report machine) → IfNone told (IsRightReport report)
+    → told ≡ first_told (outcome_judged report machine) → IfNone told (IsRightReport report)
 none_told report machine None is made told_is = no_difference_is_right report is machine made (sym told_is)
 none_told report machine (Some difference) is made told_is = tt
 
 pub some_told : (report : ReportValue) (machine : FlatMachine) (told : Option Difference) → entered_all (entries report.items) (machine_of report) ≡ Some machine
-    → told ≡ first_difference (outcome_judged report machine) → IfSome told (λ difference. IsDifference report difference)
+    → told ≡ first_told (outcome_judged report machine) → IfSome told (λ difference. IsDifference report difference)
 some_told report machine None made told_is = tt
 some_told report machine (Some difference) made told_is = inr (record { machine = machine; made = made; first = sym told_is })

@@ -22,9 +22,9 @@ use Rattle.seq_machine.specs.Reaching.{Reaches, CatchesUp, IsAtAccess, IsAtStop}
 use Rattle.timetable.specs.declared.CoreEnd.{CoreEnd}
 use Rattle.report_rows.specs.Ends.{EndValue, end_value}
 use Rattle.report_text.specs.Counts.{at_entry}
-use Rattle.report_text.proofs.CountLemmas.{count_by_at_entry}
+use Rattle.report_text.proofs.CountLaws.{count_by_at_entry}
 use Rattle.replayer.specs.declared.Difference.{Difference}
-use Rattle.replayer.specs.Judgments.{first_difference, registers_judged}
+use Rattle.replayer.specs.Judgments.{first_told, registers_judged}
 use Rattle.replayer.specs.Cores.{farthest, core_to, end_judged, core_judged}
 use Rattle.replayer.proofs.RightCores.{core_of, farther, farthest-caught_up}
 
@@ -130,8 +130,8 @@ kept_at ends place ended kept is there =
 
 -- they are judged by where it stands, in other words
 pub core_rows : (line budget : ℕ) (machine : FlatMachine) (kept other : EndValue) (accesses made : ℕ) (there core : Core) (next : Next) (told : Option Difference)
-    → told ≡ first_difference (end_judged line budget other (there.executed + accesses) there next ++ registers_judged (line + 1) other.state.regs there.state.regs)
+    → told ≡ first_told (end_judged line budget other (there.executed + accesses) there next ++ registers_judged (line + 1) other.state.regs there.state.regs)
     → other ≡ kept → accesses ≡ made → there ≡ core → next ≡ next_of machine.code (memory_bytes machine) there.state
-    → told ≡ first_difference (core_judged line budget machine kept made core)
+    → told ≡ first_told (core_judged line budget machine kept made core)
 core_rows line budget machine kept other accesses made there core next told is kept_is made_is core_is next_is =
     rw (← kept_is, ← made_is, ← core_is) (rw next_is at is)

@@ -9,7 +9,7 @@ use Rattle.access_log.specs.Replay.{FlatMachine, with_core, own}
 use Rattle.access_log.proofs.MergeLaws.{slice_get_some}
 use Rattle.report_rows.specs.Ends.{EndValue}
 use Rattle.replayer.specs.declared.Difference.{Difference}
-use Rattle.replayer.specs.Judgments.{Judgment, first_difference}
+use Rattle.replayer.specs.Judgments.{Judgment, first_told}
 use Rattle.replayer.specs.Cores.{core_to, core_judged, cores_judged}
 use Rattle.replayer.proofs.JudgeLemmas.{first_before, first_behind}
 
@@ -20,7 +20,7 @@ pub record SoFar (first_line budget : ℕ) (order : List Entry) (ends : List End
   pub memory : now.memory ≡ start.memory
   pub count : length now.cores ≡ length start.cores
   pub rest : drop place now.cores ≡ drop place start.cores
-  pub judged : first_difference (cores_judged line budget start order place (drop place ends) (drop place start.cores)) ≡ first_difference (cores_judged first_line budget start order 0 ends start.cores)
+  pub judged : first_told (cores_judged line budget start order place (drop place ends) (drop place start.cores)) ≡ first_told (cores_judged first_line budget start order 0 ends start.cores)
 
 -- the judgments of a core, and those of the cores behind it
 abbrev here : ℕ → ℕ → FlatMachine → List Entry → ℕ → EndValue → Core → List Judgment
@@ -64,13 +64,13 @@ stood start now place rest below count =
 -- what is told of the core in a place is the first difference of its judgments
 abbrev pub Told : Option Difference → ℕ → ℕ → List Entry → List EndValue → FlatMachine → ℕ → Type 0
 Told told line budget order ends now place =
-    (kept : EndValue) → (core : Core) → slice_get ends place ≡ Some kept → slice_get now.cores place ≡ Some core → told ≡ first_difference (here line budget now order place kept core)
+    (kept : EndValue) → (core : Core) → slice_get ends place ≡ Some kept → slice_get now.cores place ≡ Some core → told ≡ first_told (here line budget now order place kept core)
 
 -- the judgments of the core in a place, and what is told of them
 record Next (told : Option Difference) (line budget : ℕ) (order : List Entry) (ends : List EndValue) (start : FlatMachine) (place : ℕ) : Type 0 where
   kept : EndValue
   core : Core
-  told_is : told ≡ first_difference (here line budget start order place kept core)
+  told_is : told ≡ first_told (here line budget start order place kept core)
   are : cores_judged line budget start order place (drop place ends) (drop place start.cores)
       ≡ here line budget start order place kept core ++ behind line budget start order place ends
 
@@ -84,7 +84,7 @@ next told first_line budget order ends start now line place so_far below count t
     record {
       kept = kept.0;
       core = core.0;
-      told_is = tells kept.0 core.0 kept.1 there ∙ ap first_difference (here_same line budget start now order place kept.0 core.0 so_far.code so_far.memory);
+      told_is = tells kept.0 core.0 kept.1 there ∙ ap first_told (here_same line budget start now order place kept.0 core.0 so_far.code so_far.memory);
       are = cores_at line budget start order ends start.cores place kept.0 core.0 kept.1 core.1;
     }
 
@@ -102,13 +102,13 @@ so_far-more first_line budget order ends start now new line place after so_far b
       memory = ap (λ (m : FlatMachine). m.memory) is ∙ so_far.memory;
       count = ap (λ (m : FlatMachine). length m.cores) is ∙ length-set now.cores place after ∙ so_far.count;
       rest = moved_rest ∙ sym (drop-drop 1 place now.cores) ∙ ap (drop 1) so_far.rest ∙ drop-drop 1 place start.cores;
-      judged = sym (first_behind (here line budget start order place n.kept n.core) (behind line budget start order place ends) (sym n.told_is)) ∙ ap first_difference (sym n.are) ∙ so_far.judged;
+      judged = sym (first_behind (here line budget start order place n.kept n.core) (behind line budget start order place ends) (sym n.told_is)) ∙ ap first_told (sym n.are) ∙ so_far.judged;
     }
 
 -- a core whose rows differ is the first
 pub so_far-differs : (difference : Difference) (first_line budget : ℕ) (order : List Entry) (ends : List EndValue) (start now : FlatMachine) (line place : ℕ)
     → SoFar first_line budget order ends start now line place → place < length ends → length start.cores ≡ length ends
-    → Told (Some difference) line budget order ends now place → Some difference ≡ first_difference (cores_judged first_line budget start order 0 ends start.cores)
+    → Told (Some difference) line budget order ends now place → Some difference ≡ first_told (cores_judged first_line budget start order 0 ends start.cores)
 so_far-differs difference first_line budget order ends start now line place so_far below count tells =
     let n = next (Some difference) first_line budget order ends start now line place so_far below count tells in
-    sym (first_before (here line budget start order place n.kept n.core) (behind line budget start order place ends) difference (sym n.told_is)) ∙ ap first_difference (sym n.are) ∙ so_far.judged
+    sym (first_before (here line budget start order place n.kept n.core) (behind line budget start order place ends) difference (sym n.told_is)) ∙ ap first_told (sym n.are) ∙ so_far.judged

@@ -6,28 +6,28 @@ use Rattle.std.proofs.lemmas.List.{at_drop_more}
 use Rattle.std.proofs.lemmas.List.FromFn.{get_or-map-range_with_len, length-map-range_with_len}
 use Rattle.access_log.specs.declared.field.Field.TheVariants as fields
 use Rattle.replayer.specs.declared.Difference.{Difference}
-use Rattle.replayer.specs.Judgments.{Judgment, told, number, word, first_difference, counts_judged, registers_judged}
+use Rattle.replayer.specs.Judgments.{Judgment, told, number, word, first_told, counts_judged, registers_judged}
 
 abbrev step : Judgment → List Judgment → Bool → Option Difference
-step judgment more same = cond same (first_difference more) (Some (told judgment))
+step judgment more same = cond same (first_told more) (Some (told judgment))
 
 behind : (j : Judgment) (a b : List Judgment) (same : Bool) → j.same ≡ same → step j a same ≡ None
-    → (first_difference a ≡ None → first_difference (a ++ b) ≡ first_difference b) → step j (a ++ b) j.same ≡ first_difference b
+    → (first_told a ≡ None → first_told (a ++ b) ≡ first_told b) → step j (a ++ b) j.same ≡ first_told b
 behind j a b true is e more = ap (step j (a ++ b)) is ∙ more e
 behind j a b false is e more = absurd cc
 
 -- where the first list has no difference, that of the second is the first
-pub first_behind : (a b : List Judgment) → first_difference a ≡ None → first_difference (a ++ b) ≡ first_difference b
+pub first_behind : (a b : List Judgment) → first_told a ≡ None → first_told (a ++ b) ≡ first_told b
 first_behind [] b e = refl
 first_behind (j ∷ a) b e = behind j a b j.same refl e (first_behind a b)
 
 before : (j : Judgment) (a b : List Judgment) (difference : Difference) (same : Bool) → j.same ≡ same → step j a same ≡ Some difference
-    → (first_difference a ≡ Some difference → first_difference (a ++ b) ≡ Some difference) → step j (a ++ b) j.same ≡ Some difference
+    → (first_told a ≡ Some difference → first_told (a ++ b) ≡ Some difference) → step j (a ++ b) j.same ≡ Some difference
 before j a b difference true is e more = ap (step j (a ++ b)) is ∙ more e
 before j a b difference false is e more = ap (step j (a ++ b)) is ∙ e
 
 -- where the first list has one, it is the first
-pub first_before : (a b : List Judgment) (difference : Difference) → first_difference a ≡ Some difference → first_difference (a ++ b) ≡ Some difference
+pub first_before : (a b : List Judgment) (difference : Difference) → first_told a ≡ Some difference → first_told (a ++ b) ≡ Some difference
 first_before [] b difference e = absurd cc
 first_before (j ∷ a) b difference e = before j a b difference j.same refl e (first_before a b difference)
 
@@ -35,20 +35,20 @@ first_before (j ∷ a) b difference e = before j a b difference j.same refl e (f
 abbrev pub each_judged : (ℕ → Judgment) → ℕ → List Judgment
 each_judged judged n = map judged (range_with_len 0 n)
 
-each_at : (judged : ℕ → Judgment) (n i : ℕ) → i < n → first_difference (drop i (each_judged judged n)) ≡ step (judged i) (drop (i + 1) (each_judged judged n)) (judged i).same
+each_at : (judged : ℕ → Judgment) (n i : ℕ) → i < n → first_told (drop i (each_judged judged n)) ≡ step (judged i) (drop (i + 1) (each_judged judged n)) (judged i).same
 each_at judged n i below =
-    at_drop_more first_difference (each_judged judged n) i (judged i) (omega (arith, length-map-range_with_len judged 0 n))
+    at_drop_more first_told (each_judged judged n) i (judged i) (omega (arith, length-map-range_with_len judged 0 n))
     ∙ ap (λ (j : Judgment). step j (drop (i + 1) (each_judged judged n)) j.same) (get_or-map-range_with_len judged 0 n i i (judged i) below (omega arith))
 
 -- a place that is as due is passed over
 pub each_same : (judged : ℕ → Judgment) (n i : ℕ) → i < n → (judged i).same ≡ true
-    → first_difference (drop (i + 1) (each_judged judged n)) ≡ first_difference (drop i (each_judged judged n))
+    → first_told (drop (i + 1) (each_judged judged n)) ≡ first_told (drop i (each_judged judged n))
 each_same judged n i below same =
     sym (each_at judged n i below ∙ ap (step (judged i) (drop (i + 1) (each_judged judged n))) same)
 
 -- a place that isn't is the first
 pub each_differs : (judged : ℕ → Judgment) (n i : ℕ) → i < n → (judged i).same ≡ false
-    → first_difference (drop i (each_judged judged n)) ≡ Some (told (judged i))
+    → first_told (drop i (each_judged judged n)) ≡ Some (told (judged i))
 each_differs judged n i below differs =
     each_at judged n i below ∙ ap (step (judged i) (drop (i + 1) (each_judged judged n))) differs
 
@@ -58,13 +58,13 @@ abbrev count_at : ℕ → List ℕ → List ℕ → ℕ → Judgment
 count_at line kept due i = number (line + i) fields.Count (slice_index kept i) (slice_index due i)
 
 pub counts_passed : (line : ℕ) (kept due : List ℕ) (i : ℕ) → i < 13 → get_or kept i 0 ≡ get_or due i 0
-    → first_difference (drop i (counts_judged line kept due)) ≡ first_difference (counts_judged line kept due)
-    → first_difference (drop (i + 1) (counts_judged line kept due)) ≡ first_difference (counts_judged line kept due)
+    → first_told (drop i (counts_judged line kept due)) ≡ first_told (counts_judged line kept due)
+    → first_told (drop (i + 1) (counts_judged line kept due)) ≡ first_told (counts_judged line kept due)
 counts_passed line kept due i below same so_far = each_same (count_at line kept due) 13 i below (eq-eqb _ _ same) ∙ so_far
 
 pub counts_differ : (line : ℕ) (kept due : List ℕ) (i : ℕ) → i < 13 → (get_or kept i 0 ≡ get_or due i 0 → ⊥)
-    → first_difference (drop i (counts_judged line kept due)) ≡ first_difference (counts_judged line kept due)
-    → Some (told (count_at line kept due i)) ≡ first_difference (counts_judged line kept due)
+    → first_told (drop i (counts_judged line kept due)) ≡ first_told (counts_judged line kept due)
+    → Some (told (count_at line kept due i)) ≡ first_told (counts_judged line kept due)
 counts_differ line kept due i below differs so_far = sym (each_differs (count_at line kept due) 13 i below (ne_eqb _ _ differs)) ∙ so_far
 
 -- ---- registers, eight in a row
@@ -73,21 +73,21 @@ abbrev register_at : ℕ → List ℕ → List ℕ → ℕ → Judgment
 register_at line kept due i = word (line + i / 8) fields.Register (slice_index kept i) (slice_index due i)
 
 pub registers_passed : (line : ℕ) (kept due : List ℕ) (i : ℕ) → i < 32 → get_or kept i 0 ≡ get_or due i 0
-    → first_difference (drop i (registers_judged line kept due)) ≡ first_difference (registers_judged line kept due)
-    → first_difference (drop (i + 1) (registers_judged line kept due)) ≡ first_difference (registers_judged line kept due)
+    → first_told (drop i (registers_judged line kept due)) ≡ first_told (registers_judged line kept due)
+    → first_told (drop (i + 1) (registers_judged line kept due)) ≡ first_told (registers_judged line kept due)
 registers_passed line kept due i below same so_far = each_same (register_at line kept due) 32 i below (eq-eqb _ _ same) ∙ so_far
 
 pub registers_differ : (line : ℕ) (kept due : List ℕ) (i : ℕ) → i < 32 → (get_or kept i 0 ≡ get_or due i 0 → ⊥)
-    → first_difference (drop i (registers_judged line kept due)) ≡ first_difference (registers_judged line kept due)
-    → Some (told (register_at line kept due i)) ≡ first_difference (registers_judged line kept due)
+    → first_told (drop i (registers_judged line kept due)) ≡ first_told (registers_judged line kept due)
+    → Some (told (register_at line kept due i)) ≡ first_told (registers_judged line kept due)
 registers_differ line kept due i below differs so_far = sym (each_differs (register_at line kept due) 32 i below (ne_eqb _ _ differs)) ∙ so_far
 
 pub counts_end : (line : ℕ) (kept due : List ℕ) (i : ℕ) → i ≡ 13
-    → first_difference (drop i (counts_judged line kept due)) ≡ first_difference (counts_judged line kept due)
-    → None ≡ first_difference (counts_judged line kept due)
-counts_end line kept due i is so_far = ap (λ k. first_difference (drop k (counts_judged line kept due))) (sym is) ∙ so_far
+    → first_told (drop i (counts_judged line kept due)) ≡ first_told (counts_judged line kept due)
+    → None ≡ first_told (counts_judged line kept due)
+counts_end line kept due i is so_far = ap (λ k. first_told (drop k (counts_judged line kept due))) (sym is) ∙ so_far
 
 pub registers_end : (line : ℕ) (kept due : List ℕ) (i : ℕ) → i ≡ 32
-    → first_difference (drop i (registers_judged line kept due)) ≡ first_difference (registers_judged line kept due)
-    → None ≡ first_difference (registers_judged line kept due)
-registers_end line kept due i is so_far = ap (λ k. first_difference (drop k (registers_judged line kept due))) (sym is) ∙ so_far
+    → first_told (drop i (registers_judged line kept due)) ≡ first_told (registers_judged line kept due)
+    → None ≡ first_told (registers_judged line kept due)
+registers_end line kept due i is so_far = ap (λ k. first_told (drop k (registers_judged line kept due))) (sym is) ∙ so_far

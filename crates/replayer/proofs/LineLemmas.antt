@@ -8,7 +8,7 @@ use Rattle.kmp_base.specs.declared.setup.Setup.{Setup}
 use Rattle.kmp_base.specs.Rows.{row_behind, row_text, text_of}
 use Rattle.image_file.specs.Value.{ImageValue, image_bytes}
 use Rattle.report_rows.specs.Ends.{EndValue}
-use Rattle.report_rows.specs.Rows.{image_row, item_row, memory_row, header_rows, core_rows, access_count_rows, bus_count_rows, wait_count_rows}
+use Rattle.report_rows.specs.Rows.{bytes_row_at, item_row, memory_row, header_rows, core_rows, access_count_rows, bus_count_rows, wait_count_rows}
 use Rattle.report_text.specs.Report.{ReportValue}
 use Rattle.report_text.specs.Text.{image_rows, rows_of_cores, count_rows, run_rows, outcome_rows, report_rows, report_text}
 use Rattle.replayer.specs.Outcome.{entries_line, cores_line, words_line, counts_line}
@@ -37,7 +37,7 @@ length-header setup = refl
 length-image : (image : ImageValue) → length (image_rows image) ≡ 1 + (length (image_bytes image) + 31) / 32
 unfolding image_rows
 length-image image =
-    omega (arith, length-map-range_with_len (image_row (image_bytes image)) 0 ((length (image_bytes image) + 31) / 32))
+    omega (arith, length-map-range_with_len (bytes_row_at (image_bytes image)) 0 ((length (image_bytes image) + 31) / 32))
 
 length-core : (core : ℕ) (ended : EndValue) → length (core_rows core ended) ≡ 5
 unfolding core_rows

@@ -18,7 +18,7 @@ use Rattle.seq_machine.proofs.Entering.{entered-away, entered-differs}
 use Rattle.report_text.specs.Report.{ReportValue}
 use Rattle.replayer.specs.declared.Difference.{Difference}
 use Rattle.replayer.specs.Difference.{EntryDiffers, OutcomeDiffers, IsDifference}
-use Rattle.replayer.specs.Judgments.{first_difference}
+use Rattle.replayer.specs.Judgments.{first_told}
 use Rattle.replayer.specs.Outcome.{machine_of, entries_line, outcome_judged}
 
 -- ---- an entry that differs isn't made, and differs in one way
@@ -109,7 +109,7 @@ one_entry {line} {order} {machine} {a} {b} h k =
 one_outcome : (report : ReportValue) {a b : Difference} → OutcomeDiffers report a → OutcomeDiffers report b → a ≡ b
 one_outcome report {a} {b} h k =
     let machine : k.machine ≡ h.machine = same_Some k.machine h.machine (sym k.made ∙ h.made) in
-    same_Some a b (sym h.first ∙ ap (λ m. first_difference (outcome_judged report m)) (sym machine) ∙ k.first)
+    same_Some a b (sym h.first ∙ ap (λ m. first_told (outcome_judged report m)) (sym machine) ∙ k.first)
 
 not_both : (report : ReportValue) {a b : Difference} → EntryDiffers (entries_line report) (entries report.items) (machine_of report) a → OutcomeDiffers report b → ⊥
 not_both report h k = none-some k.machine (sym (entry_difference_is_none h) ∙ k.made)

@@ -9,24 +9,24 @@ use Rattle.mips_isa.specs.declared.Stop.{Stop}
 use Rattle.mips_isa.specs.declared.Stop.TheVariants.{OffCode, Halt, Misaligned, Outside, CodeWrite}
 use Rattle.access_log.specs.declared.field.Field.TheVariants as fields
 use Rattle.report_rows.specs.declared.MemoryWord.{MemoryWord}
-use Rattle.replayer.specs.Judgments.{Judgment, number, word, told, first_difference, is_same_stop, counts_judged, registers_judged, is_same_word, words_judged}
+use Rattle.replayer.specs.Judgments.{Judgment, number, word, told, first_told, is_same_stop, counts_judged, registers_judged, is_same_memory_word, words_judged}
 
 abbrev pub Agree : List Judgment → Type 0
 Agree judgments = AllByRecursion (λ judgment. judgment.same ≡ true) judgments
 
-none_step : (judgment : Judgment) (more : List Judgment) (same : Bool) → cond same (first_difference more) (Some (told judgment)) ≡ None → (same ≡ true) × (first_difference more ≡ None)
+none_step : (judgment : Judgment) (more : List Judgment) (same : Bool) → cond same (first_told more) (Some (told judgment)) ≡ None → (same ≡ true) × (first_told more ≡ None)
 none_step judgment more true none = (refl, none)
 none_step judgment more false none = absurd (none-some (told judgment) (sym none))
 
-pub agree : (judgments : List Judgment) → first_difference judgments ≡ None → Agree judgments
+pub agree : (judgments : List Judgment) → first_told judgments ≡ None → Agree judgments
 agree [] none = tt
 agree (judgment ∷ more) none =
     let step = none_step judgment more judgment.same none in
     (step.0, agree more step.1)
 
-pub none_differs : (judgments : List Judgment) → Agree judgments → first_difference judgments ≡ None
+pub none_differs : (judgments : List Judgment) → Agree judgments → first_told judgments ≡ None
 none_differs [] all = refl
-none_differs (judgment ∷ more) all = ap (λ same. cond same (first_difference more) (Some (told judgment))) all.0 ∙ none_differs more all.1
+none_differs (judgment ∷ more) all = ap (λ same. cond same (first_told more) (Some (told judgment))) all.0 ∙ none_differs more all.1
 
 pub agree-parts : (first others : List Judgment) → Agree (first ++ others) → Agree first × Agree others
 agree-parts [] others all = (tt, all)
@@ -95,24 +95,24 @@ word_is a b addr value =
     make : ℕ → ℕ → MemoryWord
     make n m = record { addr = n; value = m }
 
-same_word : (a b : MemoryWord) → is_same_word a b ≡ true → a ≡ b
-same_word a b same =
+same_memory_word : (a b : MemoryWord) → is_same_memory_word a b ≡ true → a ≡ b
+same_memory_word a b same =
     let both = and_parts _ _ same in
     word_is a b (eqb-true _ _ both.0) (eqb-true _ _ both.1)
 
-word_same : (a : MemoryWord) → is_same_word a a ≡ true
-word_same a = and_from _ _ (eq-eqb a.addr a.addr refl) (eq-eqb a.value a.value refl)
+memory_word_same : (a : MemoryWord) → is_same_memory_word a a ≡ true
+memory_word_same a = and_from _ _ (eq-eqb a.addr a.addr refl) (eq-eqb a.value a.value refl)
 
 pub words_same : (line : ℕ) (kept due : List MemoryWord) → Agree (words_judged line kept due) → kept ≡ due
 words_same line [] [] all = refl
 words_same line [] (next ∷ due) all = cc
 words_same line (word ∷ kept) [] all = cc
 words_same line (word ∷ kept) (next ∷ due) all =
-    ap (λ w. w ∷ kept) (same_word word next all.0) ∙ ap (λ (ws : List MemoryWord). next ∷ ws) (words_same (line + 1) kept due all.1)
+    ap (λ w. w ∷ kept) (same_memory_word word next all.0) ∙ ap (λ (ws : List MemoryWord). next ∷ ws) (words_same (line + 1) kept due all.1)
 
 pub words_agree : (line : ℕ) (words : List MemoryWord) → Agree (words_judged line words words)
 words_agree line [] = tt
-words_agree line (word ∷ words) = (word_same word, words_agree (line + 1) words)
+words_agree line (word ∷ words) = (memory_word_same word, words_agree (line + 1) words)
 
 -- ---- stops
 

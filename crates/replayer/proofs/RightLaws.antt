@@ -25,7 +25,7 @@ use Rattle.report_text.specs.Counts.{counts_of}
 use Rattle.report_text.specs.Report.{ReportValue, words_past, report_of}
 use Rattle.report_text.specs.Form.{IsReport}
 use Rattle.report_text.specs.Right.{IsRightReport}
-use Rattle.replayer.specs.Judgments.{first_difference, words_judged, counts_judged}
+use Rattle.replayer.specs.Judgments.{first_told, words_judged, counts_judged}
 use Rattle.replayer.specs.Cores.{cores_judged}
 use Rattle.replayer.specs.Outcome.{cores_line, words_line, counts_line, machine_of, outcome_judged}
 use Rattle.replayer.proofs.RightJudgments.{Agree, agree, none_differs, agree-parts, agree-append, words_same, words_agree, counts_same, counts_agree}
@@ -46,7 +46,7 @@ thirteen : (cores : List EndValue) (items : List Item) → length (counts_of cor
 unfolding counts_of
 thirteen cores items = refl
 
-all_agree : (report : ReportValue) (machine : FlatMachine) → IsReport report → first_difference (outcome_judged report machine) ≡ None → AllAgree report machine
+all_agree : (report : ReportValue) (machine : FlatMachine) → IsReport report → first_told (outcome_judged report machine) ≡ None → AllAgree report machine
 all_agree report machine is none =
     let cores = cores_judged (cores_line report) report.setup.budget machine (entries report.items) 0 report.cores machine.cores in
     let words = words_judged (words_line report) report.words (words_past (length report.image.code) machine.memory) in
@@ -119,7 +119,7 @@ same_report report machine is all =
     with_outcome cores words counts = record { setup = report.setup; image = report.image; items = report.items; cores = cores; words = words; counts = counts }
 
 pub no_difference_is_right : (report : ReportValue) → IsReport report → (machine : FlatMachine) → entered_all (entries report.items) (machine_of report) ≡ Some machine
-    → first_difference (outcome_judged report machine) ≡ None → IsRightReport report
+    → first_told (outcome_judged report machine) ≡ None → IsRightReport report
 no_difference_is_right report is machine made none =
     let all = all_agree report machine is none in
     let fits = machine_is report machine made in
@@ -187,7 +187,7 @@ ends_rightly report outcome right =
 none_in : (report : ReportValue) (outcome : OutcomeValue) (machine : FlatMachine) → IsReport report → IsRight report.setup report.image outcome → Tells report outcome
     → entered_all (entries report.items) (machine_of report) ≡ Some machine
     → AreCaughtUp machine.code (memory_bytes machine) (map retired_of report.cores) machine.cores (map final_of outcome.cores) → machine.memory ≡ outcome.words
-    → first_difference (outcome_judged report machine) ≡ None
+    → first_told (outcome_judged report machine) ≡ None
 none_in report outcome machine is right told made caught words_are =
     let fits = machine_is report machine made in
     let bytes_is = memory_is report machine is fits.words_are in
@@ -205,7 +205,7 @@ none_in report outcome machine is right told made caught words_are =
     (counts_agree (counts_line report) report.counts (counts_of report.cores report.items) told.counts))
 
 pub right_has_no_difference : (report : ReportValue) → IsReport report → IsRightReport report
-    → (machine : FlatMachine) × (entered_all (entries report.items) (machine_of report) ≡ Some machine) × (first_difference (outcome_judged report machine) ≡ None)
+    → (machine : FlatMachine) × (entered_all (entries report.items) (machine_of report) ≡ Some machine) × (first_told (outcome_judged report machine) ≡ None)
 right_has_no_difference report is right =
     let outcome = right.outcome in
     let told = tells report outcome right.is in

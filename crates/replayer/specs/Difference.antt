@@ -13,7 +13,7 @@ use Rattle.report_text.specs.Report.{ReportValue}
 use Rattle.replayer.specs.declared.Difference.{Difference}
 use Rattle.replayer.specs.declared.Verdict.{Verdict}
 use Rattle.replayer.specs.declared.Verdict.TheVariants as verdicts
-use Rattle.replayer.specs.Judgments.{first_difference}
+use Rattle.replayer.specs.Judgments.{first_told}
 use Rattle.replayer.specs.Outcome.{entries_line, machine_of, outcome_judged}
 
 -- what an entry keeps in a field of its row
@@ -46,7 +46,7 @@ pub record EntryDiffers (first_line : ℕ) (order : List Entry) (machine : FlatM
 pub record OutcomeDiffers (report : ReportValue) (difference : Difference) : Type 0 where
   pub machine : FlatMachine
   pub made : entered_all (entries report.items) (machine_of report) ≡ Some machine
-  pub first : first_difference (outcome_judged report machine) ≡ Some difference
+  pub first : first_told (outcome_judged report machine) ≡ Some difference
 
 -- the first difference of a report
 abbrev pub IsDifference : ReportValue → Difference → Type 0

@@ -59,9 +59,9 @@ abbrev pub told : Judgment → Difference
 told judgment = record { line = judgment.line; field = judgment.field; kept = judgment.kept; found = judgment.due }
 
 -- the first of the judgments that differs
-abbrev pub first_difference : List Judgment → Option Difference
-first_difference [] = None
-first_difference (judgment ∷ more) = if judgment.same then first_difference more else Some (told judgment)
+abbrev pub first_told : List Judgment → Option Difference
+first_told [] = None
+first_told (judgment ∷ more) = if judgment.same then first_told more else Some (told judgment)
 
 -- ---- lists of numbers and of words
 
@@ -73,8 +73,8 @@ counts_judged line kept due = map (λ i. number (line + i) fields.Count (slice_i
 abbrev pub registers_judged : ℕ → List ℕ → List ℕ → List Judgment
 registers_judged line kept due = map (λ i. word (line + i / 8) fields.Register (slice_index kept i) (slice_index due i)) (range_with_len 0 32)
 
-abbrev pub is_same_word : MemoryWord → MemoryWord → Bool
-is_same_word a b = a.addr == b.addr && a.value == b.value
+abbrev pub is_same_memory_word : MemoryWord → MemoryWord → Bool
+is_same_memory_word a b = a.addr == b.addr && a.value == b.value
 
 -- a memory word as it stands in a field
 abbrev pub found_word : MemoryWord → Found
@@ -90,4 +90,4 @@ words_judged line [] [] = []
 words_judged line [] (next ∷ due) = memory_word line founds.Nothing (found_word next) false ∷ []
 words_judged line (word ∷ kept) [] = memory_word line (found_word word) founds.Nothing false ∷ []
 words_judged line (word ∷ kept) (next ∷ due) =
-    memory_word line (found_word word) (found_word next) (is_same_word word next) ∷ words_judged (line + 1) kept due
+    memory_word line (found_word word) (found_word next) (is_same_memory_word word next) ∷ words_judged (line + 1) kept due

@@ -7,7 +7,7 @@ ghost use Rattle.access_log.specs.Replay.{own, memory_bytes, with_core};
 ghost use Rattle.image_file.specs.Value.{memory_bytes as image_memory};
 ghost use Rattle.report_rows.specs.Ends.{EndValue, end_value};
 ghost use Rattle.report_text.specs.Counts.{at_entry};
-ghost use Rattle.replayer.specs.Judgments.{first_difference, registers_judged};
+ghost use Rattle.replayer.specs.Judgments.{first_told, registers_judged};
 ghost use Rattle.replayer.specs.Cores.{due_end, may_be_spent, due_cycles, end_judged, core_judged, cores_judged, core_to};
 
 use crate::Difference;
@@ -64,7 +64,7 @@ fn end_difference(
     next: &Next,
 ) -> Option<Difference>
     requires { used < 2 ^ 33 }
-    ensures { result ≡ first_difference (end_judged line budget (end_value kept.now) used there.now next.now) }
+    ensures { result ≡ first_told (end_judged line budget (end_value kept.now) used there.now next.now) }
 {
     let retired = u64::from(kept.retired);
     let cycles = u64::from(kept.cycles);
@@ -90,7 +90,7 @@ fn end_difference(
 /// The first register that differs, in four rows from a line on.
 fn registers_difference(line: u32, kept: &CoreState, due: &CoreState) -> Option<Difference>
     requires { line < 2 ^ 32 - 4 }
-    ensures { result ≡ first_difference (registers_judged line kept.now.regs due.now.regs) }
+    ensures { result ≡ first_told (registers_judged line kept.now.regs due.now.regs) }
 {
     for i in 0..32 {
         if kept.regs[i] != due.regs[i] {
@@ -115,7 +115,7 @@ fn rows_difference(
     next: &Next,
 ) -> Option<Difference>
     requires { line < 2 ^ 32 - 5 }
-    ensures { result ≡ first_difference (end_judged line budget (end_value kept.now) (there.now.executed + accesses) there.now next.now
+    ensures { result ≡ first_told (end_judged line budget (end_value kept.now) (there.now.executed + accesses) there.now next.now
         ++ registers_judged (line + 1) kept.now.state.regs there.now.state.regs) }
 {
     let used = u64::from(there.executed) + u64::from(accesses);
@@ -165,7 +165,7 @@ fn core_difference(
     requires code { machine.old.code ≡ report.now.image.code }
     requires memory { memory_bytes machine.old ≡ image_memory report.now.image }
     ensures first { (kept : EndValue) → (before : Core) → slice_get report.now.cores core ≡ Some kept → slice_get machine.old.cores core ≡ Some before
-        → result ≡ first_difference (core_judged line report.now.setup.budget machine.old kept (length (own (entries report.now.items) core)) (core_to machine.old kept.retired before)) }
+        → result ≡ first_told (core_judged line report.now.setup.budget machine.old kept (length (own (entries report.now.items) core)) (core_to machine.old kept.retired before)) }
     ensures moved { (after : Core) × (machine.new ≡ with_core machine.old core after) }
 {
     let kept = &report.cores[core as usize];
@@ -192,7 +192,7 @@ pub(crate) fn cores_difference(
     requires line { first_line + 5 * length report.now.cores < 2 ^ 32 }
     requires code { machine.old.code ≡ report.now.image.code }
     requires memory { memory_bytes machine.old ≡ image_memory report.now.image }
-    ensures first { result ≡ first_difference (cores_judged first_line report.now.setup.budget machine.old (entries report.now.items) 0 report.now.cores machine.old.cores) }
+    ensures first { result ≡ first_told (cores_judged first_line report.now.setup.budget machine.old (entries report.now.items) 0 report.now.cores machine.old.cores) }
     ensures memory { machine.new.memory ≡ machine.old.memory }
 {
     let mut line = first_line;

@@ -1,6 +1,6 @@
 //! The rows of counts.
 ghost use Rattle.std.specs.Prelude.{◌≡◌, ◌^◌, ◌<◌, ◌-◌};
-ghost use Rattle.replayer.specs.Judgments.{first_difference, counts_judged};
+ghost use Rattle.replayer.specs.Judgments.{first_told, counts_judged};
 
 use crate::Difference;
 use crate::judgments::number;
@@ -10,7 +10,7 @@ use report_text::Counts;
 /// The first count that differs, one in a row from a line on.
 pub(crate) fn counts_difference(line: u32, kept: &Counts, due: &Counts) -> Option<Difference>
     requires { line < 2 ^ 32 - 13 }
-    ensures { result ≡ first_difference (counts_judged line kept.now.values due.now.values) }
+    ensures { result ≡ first_told (counts_judged line kept.now.values due.now.values) }
 {
     for i in 0..13 {
         if kept.values[i] != due.values[i] {

@@ -2,6 +2,9 @@
 //!
 //! The machine makes the report's accesses in their order, and then each core catches up to the number of instructions
 //! that its row tells. What stands in each row is compared with what the machine has there.
+//!
+//! The law that other crates cite:
+//! - `proofs/CheckLaws`: a report has no difference exactly where it is right.
 #![tactic(auto)]
 
 ghost use Rattle.std.specs.Prelude.{◌≡◌, ◌≤◌, ◌↔◌, length, IfOk, IfNone, IfSome};

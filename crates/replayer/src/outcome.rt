@@ -2,7 +2,7 @@
 ghost use Rattle.std.specs.Prelude.{◌≡◌, ◌*◌, ◌≤◌, length};
 ghost use Rattle.report_text.specs.Form.{IsReport};
 ghost use Rattle.report_text.specs.Text.{report_text};
-ghost use Rattle.replayer.specs.Judgments.{first_difference};
+ghost use Rattle.replayer.specs.Judgments.{first_told};
 ghost use Rattle.replayer.specs.Outcome.{outcome_judged};
 
 use crate::Difference;
@@ -20,7 +20,7 @@ pub(crate) fn outcome_difference(machine: &mut Machine, report: &Report) -> Opti
     requires code { machine.old.code ≡ report.now.image.code }
     requires cores { length machine.old.cores ≡ report.now.setup.cores }
     requires words { length machine.old.memory ≡ 2 * report.now.image.memory_lines }
-    ensures { result ≡ first_difference (outcome_judged report.now machine.old) }
+    ensures { result ≡ first_told (outcome_judged report.now machine.old) }
 {
     if let Some(difference) = cores_difference(machine, report, cores_line(report)) {
         return Some(difference);

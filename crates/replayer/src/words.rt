@@ -1,7 +1,7 @@
 //! The rows of memory words.
 ghost use Rattle.std.specs.Prelude.{◌≡◌, ◌+◌, ◌*◌, ◌/◌, ◌^◌, ◌<◌, ◌≤◌, [], ◌∷◌, length, IfSome, IfNone};
 ghost use Rattle.report_text.specs.Report.{words_past};
-ghost use Rattle.replayer.specs.Judgments.{first_difference, words_judged};
+ghost use Rattle.replayer.specs.Judgments.{first_told, words_judged};
 
 use crate::Difference;
 use crate::judgments::{found_word, memory_word};
@@ -39,7 +39,7 @@ pub(crate) fn words_difference(
 ) -> Option<Difference>
     requires words { length machine.now.memory ≡ 2 * image.now.memory_lines }
     requires lines { first_line + length kept.now < 2 ^ 32 }
-    ensures { result ≡ first_difference (words_judged first_line kept.now (words_past (length image.now.code) machine.now.memory)) }
+    ensures { result ≡ first_told (words_judged first_line kept.now (words_past (length image.now.code) machine.now.memory)) }
 {
     let words = 2 * image.memory_lines;
     let mut line = first_line;

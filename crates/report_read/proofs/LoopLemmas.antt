@@ -4,7 +4,8 @@ use Rattle.std.proofs.lemmas.List.{append-nil, drop_all}
 use Rattle.row_reader.specs.declared.stuck.Stuck.{Stuck}
 use Rattle.row_reader.specs.declared.stuck.Stuck.TheVariants.{Memory, At}
 use Rattle.row_reader.specs.Rows.{Rows}
-use Rattle.row_reader.specs.Reading.{◌>>=◌, row_at, each_at}
+use Rattle.kmp_base.specs.Bind.{◌>>=◌}
+use Rattle.row_reader.specs.Reading.{row_at, each_at}
 use Rattle.row_reader.specs.Gives.{Fails}
 use Rattle.row_reader.proofs.LoopLaws.{with_front}
 use Rattle.report_rows.specs.Reading.{bytes_row_of}

@@ -11,12 +11,13 @@ use Rattle.kmp_base.specs.declared.setup.Turns.{Turns}
 use Rattle.kmp_base.specs.declared.setup.Turns.TheVariants as turns
 use Rattle.row_reader.specs.Rows.{Rows}
 use Rattle.row_reader.specs.Starts.{IsPart}
-use Rattle.row_reader.specs.Reading.{◌>>=◌, row_at}
+use Rattle.kmp_base.specs.Bind.{◌>>=◌}
+use Rattle.row_reader.specs.Reading.{row_at}
 use Rattle.row_reader.proofs.PartLaws.{one_line, row_part, then_part}
 use Rattle.row_reader.proofs.PlainLaws.{all_append}
 use Rattle.row_reader.proofs.ManyLaws.{part_as, last_part, map_part, then_known, last_known}
 use Rattle.report_rows.specs.Bounds.{IsByte, IsHeader}
-use Rattle.report_rows.specs.Rows.{number_row, bytes_row, image_row, header_rows}
+use Rattle.report_rows.specs.Rows.{number_row, bytes_row, bytes_row_at, header_rows}
 use Rattle.report_rows.specs.Reading.{bytes_row_of}
 use Rattle.report_rows.proofs.RowLaws.{fixed_law, number_law, sets_law, policy_law, turns_law, bytes_law}
 use Rattle.report_text.proofs.ImageLaws.{AreBytes}
@@ -203,11 +204,11 @@ opening_part =
 -- ---- the opening of an image
 
 -- rows of bytes by their places
-rows_from : (bytes : List ℕ) (place n : ℕ) → map (image_row bytes) (range_with_len place n) ≡ full_rows n (drop (32 * place) bytes)
+rows_from : (bytes : List ℕ) (place n : ℕ) → map (bytes_row_at bytes) (range_with_len place n) ≡ full_rows n (drop (32 * place) bytes)
 rows_from bytes place zero = refl
 rows_from bytes place (suc n) =
     let next : 32 * place + 32 ≡ 32 * (place + 1) = omega arith in
-    ap (λ (r : Rows). image_row bytes place ∷ r)
+    ap (λ (r : Rows). bytes_row_at bytes place ∷ r)
     (rows_from bytes (place + 1) n ∙ ap (λ m. full_rows n (drop m bytes)) (sym next) ∙ ap (full_rows n) (sym (drop-drop 32 (32 * place) bytes)))
 
 -- the rows of bytes in front, and of those behind them
@@ -255,7 +256,7 @@ bytes_behind bytes are = (all_cut IsByte (32 * full_of (length bytes)) bytes are
 
 -- so many rows of an image: those before its last, and more
 rows_at : (bytes : List ℕ) (n more : ℕ) → n ≡ full_of (length bytes) + more
-    → map (image_row bytes) (range_with_len 0 n) ≡ full_rows (full_of (length bytes)) (front_of bytes) ++ full_rows more (last_of bytes)
+    → map (bytes_row_at bytes) (range_with_len 0 n) ≡ full_rows (full_of (length bytes)) (front_of bytes) ++ full_rows more (last_of bytes)
 rows_at bytes n more sum =
     let before = full_of (length bytes) in
     rows_from bytes 0 n ∙ ap (full_rows n) (sym (take-append-drop (32 * before) bytes))
@@ -270,7 +271,7 @@ last_short : (bytes : List ℕ) → length (last_of bytes) ≤ 32
 last_short bytes = omega (arith, length-drop (32 * full_of (length bytes)) bytes)
 
 pub all_rows : (bytes : List ℕ) → 1 ≤ length bytes
-    → map (image_row bytes) (range_with_len 0 ((length bytes + 31) / 32)) ≡ full_rows (full_of (length bytes)) (front_of bytes) ++ bytes_row (last_of bytes) ∷ []
+    → map (bytes_row_at bytes) (range_with_len 0 ((length bytes + 31) / 32)) ≡ full_rows (full_of (length bytes)) (front_of bytes) ++ bytes_row (last_of bytes) ∷ []
 all_rows bytes some =
     rows_at bytes ((length bytes + 31) / 32) 1 (omega (arith, some))
     ∙ ap (λ last. full_rows (full_of (length bytes)) (front_of bytes) ++ bytes_row last ∷ []) (take_all 32 (last_of bytes) (last_short bytes))

@@ -17,11 +17,12 @@ use Rattle.report_rows.specs.declared.MemoryWord.{MemoryWord}
 use Rattle.report_rows.specs.Ends.{EndValue}
 use Rattle.report_rows.specs.Bounds.{IsHeader, IsEntry, IsItem, IsEnd, IsMemoryWord, AreMemoryWords, IsCount}
 use Rattle.report_rows.specs.Rows.{entry_row, item_row, core_rows, core_row, registers_row, memory_row, count_row, access_count_rows, bus_count_rows, wait_count_rows}
+use Rattle.report_rows.specs.Names.{count_names}
 use Rattle.report_rows.specs.Reading.{entry_row_of, memory_row_of, count_row_of}
 use Rattle.report_rows.proofs.RowLaws.{fixed_law, entry_law, memory_law, count_law}
 use Rattle.report_text.specs.Report.{ReportValue}
 use Rattle.report_text.specs.Text.{rows_of_cores, count_rows}
-use Rattle.report_read.specs.Reading.{after_word, count_names, counts_at, outcome_at}
+use Rattle.report_read.specs.Reading.{after_word, counts_at, outcome_at}
 use Rattle.report_read.proofs.ListLaws.{all_each, each_all}
 use Rattle.report_read.proofs.CoreLaws.{AreEnds, ends_part}
 
@@ -157,8 +158,8 @@ pub record IsOutcome (z : ReportValue) : Type 0 where
   pub counts : AllByRecursion IsCount z.counts
 
 -- a report of this setup and this image, with an outcome within its bounds
-abbrev pub IsReportOf : Setup → ImageValue → ReportValue → Type 0
-IsReportOf setup image z = ((z.setup ≡ setup) × (z.image ≡ image)) × IsOutcome z
+abbrev pub IsOutcomeOf : Setup → ImageValue → ReportValue → Type 0
+IsOutcomeOf setup image z = ((z.setup ≡ setup) × (z.image ≡ image)) × IsOutcome z
 
 -- the rows behind the image
 abbrev pub rows_behind : ReportValue → Rows
@@ -210,7 +211,7 @@ outcome_fields setup image some few budget small =
     (λ z k. report_is z setup image accesses cores words counts k.1.1.1.1.1.0 k.1.1.1.1.1.1.0 k.1.1.1.1.1.1.1 k.1.1.1.1.0 k.1.1.1.0 k.1.1.0 k.1.0)
     (refl, (refl, (refl, (refl, (entries_done accesses, (ap done_of (entries_done accesses), (refl, refl))))))))))))
 
-outcome_to : (setup : Setup) (image : ImageValue) (z : ReportValue) → IsOf setup image z × OutcomeFields setup image z → IsReportOf setup image z
+outcome_to : (setup : Setup) (image : ImageValue) (z : ReportValue) → IsOf setup image z × OutcomeFields setup image z → IsOutcomeOf setup image z
 outcome_to setup image z h =
     let bytes = memory_bytes image in
     let items : AllByRecursion (IsItem setup.cores bytes) z.items = subst (AllByRecursion (IsItem setup.cores bytes)) h.0.0 (done_fit setup.cores bytes 0 (entries z.items) h.1.0) in
@@ -228,7 +229,7 @@ outcome_to setup image z h =
       },
     )
 
-outcome_from : (setup : Setup) (image : ImageValue) (z : ReportValue) → IsReportOf setup image z → IsOf setup image z × OutcomeFields setup image z
+outcome_from : (setup : Setup) (image : ImageValue) (z : ReportValue) → IsOutcomeOf setup image z → IsOf setup image z × OutcomeFields setup image z
 outcome_from setup image z h =
     let bytes = memory_bytes z.image in
     let o = h.1 in
@@ -239,10 +240,10 @@ outcome_from setup image z h =
 outcome_rows_are : (z : ReportValue) → AreDone z.items → rows_read z ≡ rows_behind z
 outcome_rows_are z done = ap (λ (r : Rows). r ++ (rows_of_cores 0 z.cores ++ (map memory_row z.words ++ (count_rows z.counts ++ end_row ∷ [])))) (done_rows (entries z.items) ∙ ap (map item_row) done)
 
-pub outcome_part : (setup : Setup) (image : ImageValue) → IsHeader setup → memory_bytes image ≤ 2 ^ 32 → IsPart (IsReportOf setup image) rows_behind (outcome_at setup image)
+pub outcome_part : (setup : Setup) (image : ImageValue) → IsHeader setup → memory_bytes image ≤ 2 ^ 32 → IsPart (IsOutcomeOf setup image) rows_behind (outcome_at setup image)
 outcome_part setup image header small =
     let few : setup.cores ≤ 8 = header.limits.cores in
     let most : setup.budget ≤ 100000 = header.limits.budget in
-    part_as (λ z. IsOf setup image z × OutcomeFields setup image z) (IsReportOf setup image) rows_read rows_behind (outcome_at setup image)
+    part_as (λ z. IsOf setup image z × OutcomeFields setup image z) (IsOutcomeOf setup image) rows_read rows_behind (outcome_at setup image)
     (outcome_to setup image) (outcome_from setup image) (λ z h. outcome_rows_are z h.0.0)
     (outcome_fields setup image header.limits.some_cores few (omega (arith, most)) small)

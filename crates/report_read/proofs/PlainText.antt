@@ -9,8 +9,8 @@ use Rattle.row_reader.proofs.PlainLaws.{plain_by_test, all_append}
 use Rattle.report_rows.specs.declared.MemoryWord.{MemoryWord}
 use Rattle.report_rows.specs.Ends.{EndValue}
 use Rattle.report_rows.specs.Bounds.{IsItem, IsEnd}
-use Rattle.report_rows.specs.Rows.{image_row, item_row, memory_row, core_rows, header_rows}
-use Rattle.report_rows.proofs.PlainRows.{header_plain, number_row_plain, bytes_row_plain, item_plain, memory_plain, core_rows_plain, count_rows_plain}
+use Rattle.report_rows.specs.Rows.{bytes_row_at, item_row, memory_row, core_rows, header_rows}
+use Rattle.report_rows.proofs.PlainRowLaws.{header_plain, number_row_plain, bytes_row_plain, item_plain, memory_plain, core_rows_plain, count_rows_plain}
 use Rattle.report_text.specs.Report.{ReportValue}
 use Rattle.report_text.specs.Text.{image_rows, rows_of_cores, count_rows, run_rows, outcome_rows, report_rows}
 use Rattle.report_text.specs.Form.{IsReport}
@@ -18,7 +18,7 @@ use Rattle.report_text.specs.Form.{IsReport}
 abbrev ArePlain : Rows → Type 0
 ArePlain rows = AllByRecursion IsPlainRow rows
 
-bytes_plain_at : (bytes places : List ℕ) → ArePlain (map (image_row bytes) places)
+bytes_plain_at : (bytes places : List ℕ) → ArePlain (map (bytes_row_at bytes) places)
 bytes_plain_at bytes [] = tt
 bytes_plain_at bytes (place ∷ places) = (bytes_row_plain _, bytes_plain_at bytes places)
 

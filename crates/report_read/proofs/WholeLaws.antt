@@ -5,7 +5,8 @@ use Rattle.std.proofs.lemmas.List.{append-nil}
 use Rattle.image_file.specs.Value.{ImageValue, image_bytes, memory_bytes}
 use Rattle.image_file.specs.Reading.{image_meaning}
 use Rattle.row_reader.specs.Rows.{Row, Rows, rows_of}
-use Rattle.row_reader.specs.Reading.{◌>>=◌, chosen, row_at}
+use Rattle.kmp_base.specs.Bind.{◌>>=◌}
+use Rattle.row_reader.specs.Reading.{chosen, row_at}
 use Rattle.row_reader.specs.Starts.{Stops}
 use Rattle.row_reader.proofs.PartLaws.{row_takes, ok_is, err_is, bind_ok, bind_err, chosen_err, none_some, head_is, tail_is}
 use Rattle.row_reader.proofs.FieldLaws.{some_is}
@@ -21,7 +22,7 @@ use Rattle.report_read.proofs.OpeningLaws.{full_of, full_rows, IsOpening, rows_o
 use Rattle.report_text.proofs.ImageLaws.{image_bytes_are}
 use Rattle.report_read.proofs.LastRowLaws.{some_bytes, memory_small, IsImageOf, last_row, image_law}
 use Rattle.report_read.proofs.PlainText.{report_plain}
-use Rattle.report_read.proofs.OutcomeLaws.{IsOutcome, IsReportOf, end_row, rows_behind, outcome_part}
+use Rattle.report_read.proofs.OutcomeLaws.{IsOutcome, IsOutcomeOf, end_row, rows_behind, outcome_part}
 
 -- ---- the three parts of a report
 
@@ -65,7 +66,7 @@ record IsMade (o : OpeningValue) (image : ImageValue) (r : ReportValue) : Type 0
   is : IsReport r
   opening : opening_in r ≡ o
 
-made_of : (o : OpeningValue) (image : ImageValue) (r : ReportValue) → IsOpening o → IsImageOf o image → IsReportOf o.setup image r → IsMade o image r
+made_of : (o : OpeningValue) (image : ImageValue) (r : ReportValue) → IsOpening o → IsImageOf o image → IsOutcomeOf o.setup image r → IsMade o image r
 made_of o image r opening good h =
     let setup_is = h.0.0 in
     let image_is = h.0.1 in
@@ -223,7 +224,7 @@ stuck_at_image rows stuck later o fits are e =
     }
 
 stuck_behind : (rows stuck later outcome : Rows) (o : OpeningValue) (image : ImageValue) → IsOpening o → IsImageOf o image
-    → rows ≡ rows_of_opening o ++ later → later ≡ last_row image ∷ outcome → Stops (IsReportOf o.setup image) rows_behind outcome stuck → Halts rows stuck
+    → rows ≡ rows_of_opening o ++ later → later ≡ last_row image ∷ outcome → Stops (IsOutcomeOf o.setup image) rows_behind outcome stuck → Halts rows stuck
 stuck_behind rows stuck later outcome o image fits good are later_are s =
     let r = s.begins.value in
     let m = made_of o image r fits good s.begins.fits in

@@ -4,7 +4,7 @@ use Rattle.std.specs.List.{AllByRecursion, range_with_len}
 use Rattle.kmp_base.specs.declared.setup.Setup.{Setup}
 use Rattle.row_reader.specs.Rows.{Row, Rows}
 use Rattle.report_rows.specs.Bounds.{IsByte, IsHeader}
-use Rattle.report_rows.specs.Rows.{number_row, image_row, header_rows}
+use Rattle.report_rows.specs.Rows.{number_row, bytes_row_at, header_rows}
 use Rattle.report_text.specs.Report.{ReportValue}
 use Rattle.report_text.specs.Text.{report_rows}
 use Rattle.report_text.specs.Form.{IsReport}
@@ -21,7 +21,7 @@ pub record BeginsReport (rows : Rows) : Type 0 where
 -- the header of a report, and the rows of an image of these bytes but the last
 abbrev pub opening_rows : Setup → List ℕ → Rows
 opening_rows setup bytes =
-    header_rows setup ++ number_row (codes "image") (length bytes) ∷ map (image_row bytes) (range_with_len 0 ((length bytes - 1) / 32))
+    header_rows setup ++ number_row (codes "image") (length bytes) ∷ map (bytes_row_at bytes) (range_with_len 0 ((length bytes - 1) / 32))
 
 -- Rows begin a report whose image may be any bytes, and the last row of the image isn't among them.
 pub record BeginsOpening (rows : Rows) : Type 0 where

@@ -11,10 +11,12 @@ use Rattle.access_log.specs.declared.Item.TheVariants.{Done}
 use Rattle.image_file.specs.Value.{ImageValue, memory_bytes}
 use Rattle.image_file.specs.Reading.{image_meaning}
 use Rattle.row_reader.specs.Rows.{Row, Rows, is_named}
-use Rattle.row_reader.specs.Reading.{◌>>=◌, row_at, many_at, each_at}
+use Rattle.kmp_base.specs.Bind.{◌>>=◌}
+use Rattle.row_reader.specs.Reading.{row_at, many_at, each_at}
 use Rattle.report_rows.specs.declared.MemoryWord.{MemoryWord}
 use Rattle.report_rows.specs.declared.read.EndRow.{EndRow}
 use Rattle.report_rows.specs.Ends.{EndValue}
+use Rattle.report_rows.specs.Names.{count_names}
 use Rattle.report_rows.specs.Reading.{fixed_of, number_row_of, sets_row_of, policy_row_of, turns_row_of, bytes_row_of, entry_row_of, end_row_of, registers_row_of, memory_row_of, count_row_of}
 use Rattle.report_text.specs.Report.{ReportValue}
 
@@ -109,12 +111,6 @@ after_word word = word.addr + 4
 
 abbrev pub words_at : ℕ → ℕ → Rows → Result (List MemoryWord × Rows) Rows
 words_at bytes low rows = many_at (is_named (codes "W")) (memory_row_of bytes) after_word low rows
-
-abbrev pub count_names : List (List ℕ)
-count_names =
-    codes "retired" ∷ codes "loads" ∷ codes "stores" ∷ codes "cas" ∷ codes "swapped"
-    ∷ codes "transactions" ∷ codes "exclusive" ∷ codes "owned" ∷ codes "upgrades" ∷ codes "flushes"
-    ∷ codes "wait-fetch" ∷ codes "wait-operand" ∷ codes "wait-access" ∷ []
 
 abbrev pub counts_at : Rows → Result (List ℕ × Rows) Rows
 counts_at rows = each_at (λ name. row_at (count_row_of name)) count_names rows

@@ -5,7 +5,7 @@ ghost use Rattle.row_reader.specs.Gives.{Gives};
 ghost use Rattle.report_read.specs.Reading.{caches_at, header_at};
 
 use crate::rows::{first_row, fixed_at, number_at};
-use kmp_base::{MachineKind, Policy, Setup, Turns};
+use kmp_base::{MOST_BUDGET, MOST_CORES, MOST_WAYS, MachineKind, Policy, Setup, Turns};
 use report_rows::{policy_row, sets_row, turns_row};
 use row_reader::Stuck;
 
@@ -22,9 +22,9 @@ fn caches<'a>(
     ensures cores { IfOk result (λ x. x.0.cores ≡ cores) }
     ensures shorter { IfOk result (λ x. length x.1.now < length text.now) }
 {
-    let (seed, rest) = number_at(text, b"seed", 0, 4294967295)?;
+    let (seed, rest) = number_at(text, b"seed", 0, u32::MAX as u64)?;
     let (sets, rest) = first_row(rest, |row| sets_row(row))?;
-    let (ways, rest) = number_at(rest, b"ways", 1, 8)?;
+    let (ways, rest) = number_at(rest, b"ways", 1, MOST_WAYS as u64)?;
     let setup = Setup {
         machine: MachineKind::Plain,
         cores,
@@ -48,8 +48,8 @@ pub(crate) fn header(text: &[u8]) -> Result<(Setup, &[u8]), Stuck<'_>>
 {
     let (_, rest) = fixed_at(text, b"kmp-report", b"1")?;
     let (_, rest) = fixed_at(rest, b"machine", b"plain")?;
-    let (cores, rest) = number_at(rest, b"cores", 1, 8)?;
-    let (budget, rest) = number_at(rest, b"budget", 1, 100000)?;
+    let (cores, rest) = number_at(rest, b"cores", 1, MOST_CORES as u64)?;
+    let (budget, rest) = number_at(rest, b"budget", 1, MOST_BUDGET as u64)?;
     let (policy, rest) = first_row(rest, |row| policy_row(row))?;
     let (turns, rest) = first_row(rest, |row| turns_row(row))?;
     caches(rest, cores as u32, budget as u32, policy, turns)

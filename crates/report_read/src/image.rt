@@ -81,7 +81,7 @@ pub(crate) fn read_opening(alloc: Global, text: &[u8]) -> Result<(Opening, &[u8]
     ensures shorter { IfOk result (λ x. length x.1.now ≤ length text.now) }
 {
     let (setup, rest) = header(text)?;
-    let (size, rest) = number_at(rest, b"image", 1, 4294967295)?;
+    let (size, rest) = number_at(rest, b"image", 1, u32::MAX as u64)?;
     let size = size as u32;
     let (front, rest) = full_rows(alloc, rest, (size - 1) / 32)?;
     Ok((Opening { setup, size, front }, rest))
@@ -110,7 +110,7 @@ fn image(alloc: Global, row: &[u8], size: u32, front: Vec<u8>) -> Result<Option<
 }
 
 /// The image, with its last row.
-pub(crate) fn image_row<'a>(
+pub(crate) fn last_image_row<'a>(
     alloc: Global,
     text: &'a [u8],
     size: u32,

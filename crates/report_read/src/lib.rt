@@ -7,4 +7,4 @@ mod outcome;
 mod read;
 mod rows;
 
-pub use read::{ReportFault, read_report};
+pub use read::{REPORT_LIMIT, ReportFault, read_report};

@@ -5,35 +5,20 @@ ghost use Rattle.access_log.specs.declared.Item.TheVariants.{Done};
 ghost use Rattle.row_reader.specs.Rows.{rows_of};
 ghost use Rattle.row_reader.specs.Gives.{Gives};
 ghost use Rattle.report_rows.specs.Ends.{end_value};
-ghost use Rattle.report_read.specs.Reading.{entries_at, end_at, ends_at, words_at, count_names, counts_at, outcome_at};
+ghost use Rattle.report_read.specs.Reading.{entries_at, end_at, ends_at, words_at, counts_at, outcome_at};
 
 use crate::rows::{first_row, registers_at};
 use access_log::{Entry, History, Item};
 use image_file::Image;
 use kmp_base::Setup;
 use mips_isa::CoreState;
-use report_rows::{Counts, MemoryWord, count_row, end_row, entry_row, last_row, memory_row};
+use report_rows::{
+    Counts, MemoryWord, count_name, count_row, end_row, entry_row, last_row, memory_row,
+};
 use report_text::{NoMemory, Report};
 use row_reader::{Stuck, is_next};
 use std::alloc::Global;
 use timetable::{CoreEnd, Rows};
-
-/// The names of the counts, in the order of their rows.
-const COUNTS: [&str; 13] = [
-    "retired",
-    "loads",
-    "stores",
-    "cas",
-    "swapped",
-    "transactions",
-    "exclusive",
-    "owned",
-    "upgrades",
-    "flushes",
-    "wait-fetch",
-    "wait-operand",
-    "wait-access",
-];
 
 /// The accesses that stand first in a text.
 #[tactic(auto, unfolding(report_rows::specs::Reading::entry_row_of))]
@@ -145,14 +130,6 @@ fn words<'a>(
     Ok((words, rest))
 }
 
-/// The name of a count, by its place.
-fn count_name(place: usize) -> &'static [u8]
-    requires { place < 13 }
-    ensures { result.now ≡ slice_index_or count_names place [] }
-{
-    COUNTS[place].as_bytes()
-}
-
 /// The counts.
 #[tactic(auto, unfolding(report_rows::specs::Reading::count_row_of))]
 fn counts(text: &[u8]) -> Result<(Counts, &[u8]), Stuck<'_>>
@@ -161,7 +138,7 @@ fn counts(text: &[u8]) -> Result<(Counts, &[u8]), Stuck<'_>>
     let mut values = [0; 13];
     let mut rest = text;
     for i in 0..13 {
-        let key = count_name(i);
+        let key = count_name(i).as_bytes();
         let (count, behind) = first_row(rest, move |row| count_row(row, key))?;
         values[i] = count;
         rest = behind;

@@ -8,7 +8,7 @@ ghost use Rattle.report_text.specs.Form.{IsReport};
 ghost use Rattle.report_read.specs.BadRow.{IsReadAs, IfBadRow, IsBadRow};
 ghost use Rattle.report_read.specs.Reading.{report_at, read_of};
 
-use crate::image::{image_row, read_opening};
+use crate::image::{last_image_row, read_opening};
 use crate::outcome::outcome;
 use report_text::Report;
 use row_reader::{Stuck, row_count};
@@ -22,7 +22,7 @@ fn report(alloc: Global, text: &[u8]) -> Result<(Report, &[u8]), Stuck<'_>>
     ensures { Gives (λ x. (x.0, rows_of x.1.now)) result (report_at (rows_of text.now)) }
 {
     let (opening, rest) = read_opening(alloc, text)?;
-    let (image, rest) = image_row(alloc, rest, opening.size, opening.front)?;
+    let (image, rest) = last_image_row(alloc, rest, opening.size, opening.front)?;
     outcome(alloc, rest, opening.setup, image)
 }
 
@@ -40,6 +40,9 @@ fn read(alloc: Global, text: &[u8]) -> Result<Report, Stuck<'_>>
     }
 }
 
+/// The most bytes of a report that is read.
+pub const REPORT_LIMIT: usize = 268_435_456;
+
 /// Why a text wasn't read.
 #[derive(Clone, Copy, Debug, Error)]
 pub enum ReportFault {
@@ -51,7 +54,7 @@ pub enum ReportFault {
     BadRow(u32),
 }
 
-/// The report whose text this is, of at most 268,435,456 bytes.
+/// The report whose text this is, of at most [`REPORT_LIMIT`] bytes.
 ///
 /// Its time is linear in the bytes.
 pub fn read_report(alloc: Global, bytes: &[u8]) -> Result<Report, ReportFault>

@@ -1,4 +1,4 @@
 pub mod DigitLemmas
 pub mod ValueLaws
 pub mod RowLaws
-pub mod PlainRows
+pub mod PlainRowLaws

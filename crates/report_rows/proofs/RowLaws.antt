@@ -16,9 +16,9 @@ use Rattle.row_reader.proofs.FieldLaws.{IsField, then_field, last_field, row_as}
 use Rattle.row_reader.proofs.NumberLaws.{number_field, word_field, optional_field, exactly_field, bytes_field}
 use Rattle.report_rows.specs.declared.MemoryWord.{MemoryWord}
 use Rattle.report_rows.specs.declared.read.EndRow.{EndRow}
-use Rattle.report_rows.specs.Names.{policy_name, turns_name}
+use Rattle.kmp_base.specs.Names.{policy_name, turns_name}
 use Rattle.report_rows.specs.Bounds.{IsWord, IsByte, IsTime, IsPlace, IsEntry, IsMemoryWord, IsCount}
-use Rattle.report_rows.specs.Rows.{word_row, number_row, bytes_row, entry_row, core_row, memory_row, count_row}
+use Rattle.report_rows.specs.Rows.{text_row, number_row, bytes_row, entry_row, core_row, memory_row, count_row}
 use Rattle.report_rows.specs.Reading.{behind_name, fixed_of, number_from, number_row_of, sets_row_of, policy_row_of, turns_row_of, bytes_row_of, entry_row_of, entry_access_of, entry_words_of, end_row_of, end_numbers_of, two_words_at, four_words_at, eight_words_of, registers_row_of, memory_row_of, count_row_of}
 use Rattle.report_rows.proofs.ValueLaws.{policy_field, turns_field, kind_field, end_field, from_field, sets_field, place_field, place_from_field, some_word_field}
 
@@ -55,11 +55,11 @@ pub sets_law : IsRow (λ n. ((k : ℕ) × (n ≡ 2 ^ k)) × (n ≤ 256)) (number
 unfolding sets_row_of
 sets_law = behind_law _ _ _ (codes "sets") sets_field
 
-pub policy_law : IsRow (λ p. Unit {0}) (λ p. word_row (codes "arbitration") (policy_name p)) policy_row_of
+pub policy_law : IsRow (λ p. Unit {0}) (λ p. text_row (codes "arbitration") (policy_name p)) policy_row_of
 unfolding policy_row_of
 policy_law = behind_law _ _ _ (codes "arbitration") policy_field
 
-pub turns_law : IsRow (λ p. Unit {0}) (λ p. word_row (codes "turns") (turns_name p)) turns_row_of
+pub turns_law : IsRow (λ p. Unit {0}) (λ p. text_row (codes "turns") (turns_name p)) turns_row_of
 unfolding turns_row_of
 turns_law = behind_law _ _ _ (codes "turns") turns_field
 

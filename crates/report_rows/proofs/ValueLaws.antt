@@ -19,9 +19,11 @@ use Rattle.timetable.specs.declared.End.TheVariants as ends
 use Rattle.row_reader.specs.Numbers.{number_of, word_of}
 use Rattle.row_reader.proofs.FieldLaws.{IsField, some_is}
 use Rattle.row_reader.proofs.NumberLaws.{same_text, number_field, word_field, tested_field}
-use Rattle.report_rows.specs.Names.{policy_name, turns_name, kind_name, end_name}
+use Rattle.kmp_base.specs.Names.{named, with_names, policy_name, turns_name, every_policy, every_turns}
+use Rattle.mips_isa.specs.Names.{kind_name}
+use Rattle.timetable.specs.Names.{end_name}
 use Rattle.report_rows.specs.Bounds.{IsWord, IsPlace}
-use Rattle.report_rows.specs.Reading.{named, every_policy, every_turns, every_access, every_end, policy_of, turns_of, kind_of, end_of, number_from, sets_of, is_place, place_of, place_from, some_word_of}
+use Rattle.report_rows.specs.Reading.{every_access, every_end, policy_of, turns_of, kind_of, end_of, number_from, sets_of, is_place, place_of, place_from, some_word_of}
 
 -- the same field in other words
 field_as : {X : Type 0} (Fits Fits' : X → Type 0) (spell : X → List ℕ) (one : List ℕ → Option X)
@@ -34,15 +36,15 @@ field_as Fits Fits' spell one to from law = record {
 -- ---- names
 
 named_here : {X : Type 0} (name : X → List ℕ) (text : List ℕ) (value x : X) (b : Bool) (more : Option X)
-    → bytes_eq text (name value) ≡ b → (more ≡ Some x → text ≡ name x) → cond b (Some value) more ≡ Some x → text ≡ name x
-named_here name text value x true more is others e = same_text text (name value) is ∙ ap name (some_is value x e)
+    → bytes_eq (name value) text ≡ b → (more ≡ Some x → text ≡ name x) → cond b (Some value) more ≡ Some x → text ≡ name x
+named_here name text value x true more is others e = sym (same_text (name value) text is) ∙ ap name (some_is value x e)
 named_here name text value x false more is others e = others e
 
 -- a text that names a value is its name
-named_found : {X : Type 0} (name : X → List ℕ) (values : List X) (text : List ℕ) (x : X) → named name values text ≡ Some x → text ≡ name x
+named_found : {X : Type 0} (name : X → List ℕ) (values : List X) (text : List ℕ) (x : X) → named (with_names name values) text ≡ Some x → text ≡ name x
 named_found name [] text x e = absurd cc
 named_found name (value ∷ values) text x e =
-    named_here name text value x (bytes_eq text (name value)) (named name values text) refl (named_found name values text x) e
+    named_here name text value x (bytes_eq (name value) text) (named (with_names name values) text) refl (named_found name values text x) e
 
 policy_again : (policy : Policy) → policy_of (policy_name policy) ≡ Some policy
 unfolding policy_of

@@ -1,45 +1,31 @@
 -- What is read of each row of a report, from its parts.
 use Rattle.std.specs.Prelude.{ℕ, ◌-◌, ◌%◌, ◌^◌, ◌==◌, ◌&&◌, nat_lt, nat_le, if◌then◌else◌, Bool, List, [], ◌∷◌, ◌++◌, codes, decimal, Option, Some, None}
-use Rattle.std.specs.List.{find}
-use Rattle.std.specs.Str.{bytes_eq}
 use Rattle.row_reader.specs.Rows.{Row}
 use Rattle.row_reader.specs.Fields.{◌>>=◌, field_at, ended}
 use Rattle.row_reader.specs.Numbers.{number_of, word_of, optional_word_of, bytes_of, exactly}
+use Rattle.kmp_base.specs.Names.{named, with_names, policy_name, turns_name, every_policy, every_turns}
 use Rattle.kmp_base.specs.declared.setup.Policy.{Policy}
-use Rattle.kmp_base.specs.declared.setup.Policy.TheVariants as policies
 use Rattle.kmp_base.specs.declared.setup.Turns.{Turns}
-use Rattle.kmp_base.specs.declared.setup.Turns.TheVariants as turns
 use Rattle.mips_isa.specs.declared.Kind.{Kind}
 use Rattle.mips_isa.specs.declared.Kind.TheVariants as kinds
 use Rattle.mips_isa.specs.declared.Stop.TheVariants as stops
 use Rattle.access_log.specs.declared.Entry.{Entry}
 use Rattle.timetable.specs.declared.End.{End}
 use Rattle.timetable.specs.declared.End.TheVariants as ends
-use Rattle.report_rows.specs.Names.{policy_name, turns_name, kind_name, end_name}
+use Rattle.mips_isa.specs.Names.{kind_name}
+use Rattle.timetable.specs.Names.{end_name}
 use Rattle.report_rows.specs.declared.MemoryWord.{MemoryWord}
 use Rattle.report_rows.specs.declared.read.EndRow.{EndRow}
 
 -- ---- names
 
--- the first of some values whose name a text is
-abbrev pub named : {X : Type 0} → (X → List ℕ) → List X → List ℕ → Option X
-named name values text = find (λ value. bytes_eq text (name value)) values
-
--- the policies, each of which has a name
-abbrev pub every_policy : List Policy
-every_policy = policies.Fifo ∷ policies.Fixed ∷ policies.Round ∷ policies.Seeded ∷ []
-
 -- the policy of this name
 unfoldable pub policy_of : List ℕ → Option Policy
-policy_of text = named policy_name every_policy text
-
--- the turns, each of which has a name
-abbrev pub every_turns : List Turns
-every_turns = turns.Round ∷ turns.Seeded ∷ turns.Threads ∷ []
+policy_of text = named (with_names policy_name every_policy) text
 
 -- the turns of this name
 unfoldable pub turns_of : List ℕ → Option Turns
-turns_of text = named turns_name every_turns text
+turns_of text = named (with_names turns_name every_turns) text
 
 -- the kinds of an access: it is no fetch
 abbrev pub every_access : List Kind
@@ -47,9 +33,9 @@ every_access = kinds.Lw ∷ kinds.Sw ∷ kinds.Cas ∷ []
 
 -- the kind of this name
 unfoldable pub kind_of : List ℕ → Option Kind
-kind_of text = named kind_name every_access text
+kind_of text = named (with_names kind_name every_access) text
 
--- the ends of a core, each of which has a name
+-- the ends of a core
 abbrev pub every_end : List End
 every_end =
     ends.Stopped stops.OffCode ∷ ends.Stopped stops.Halt ∷ ends.Stopped stops.Misaligned
@@ -57,7 +43,7 @@ every_end =
 
 -- the end of this name
 unfoldable pub end_of : List ℕ → Option End
-end_of text = named end_name every_end text
+end_of text = named (with_names end_name every_end) text
 
 -- ---- rows that say one thing, or a name and a value
 

@@ -1,7 +1,9 @@
 -- The rows of a report, each as the list of its parts.
-use Rattle.std.specs.Prelude.{ℕ, ◌*◌, List, [], ◌∷◌, take, drop, map, codes, decimal, slice_index, Option, Some, None}
+use Rattle.std.specs.Prelude.{ℕ, ◌*◌, List, [], ◌∷◌, take, drop, map, codes, decimal, slice_index, slice_index_or, Option, Some, None}
+use Rattle.std.specs.List.{range_with_len}
 use Rattle.hex.specs.Hex.{encode_lower}
 use Rattle.kmp_base.specs.Text.{hex8, hex4}
+use Rattle.kmp_base.specs.Names.{machine_name, policy_name, turns_name}
 use Rattle.kmp_base.specs.declared.setup.Setup.{Setup}
 use Rattle.access_log.specs.declared.Entry.{Entry}
 use Rattle.access_log.specs.declared.Transaction.{Transaction}
@@ -10,7 +12,9 @@ use Rattle.access_log.specs.declared.Item.TheVariants.{Done, Bus}
 use Rattle.row_reader.specs.Numbers.{word_or_dash}
 use Rattle.report_rows.specs.declared.MemoryWord.{MemoryWord}
 use Rattle.report_rows.specs.Ends.{EndValue}
-use Rattle.report_rows.specs.Names.{machine_name, policy_name, turns_name, kind_name, letter_name, end_name, bit_name}
+use Rattle.mips_isa.specs.Names.{kind_name}
+use Rattle.timetable.specs.Names.{end_name}
+use Rattle.report_rows.specs.Names.{letter_name, bit_name, count_names}
 
 -- a number, or `-` for none
 abbrev pub number_or_dash : Option ℕ → List ℕ
@@ -18,8 +22,8 @@ number_or_dash None = codes "-"
 number_or_dash (Some n) = decimal n
 
 -- a name and a word
-abbrev pub word_row : List ℕ → List ℕ → List (List ℕ)
-word_row name word = name ∷ word ∷ []
+abbrev pub text_row : List ℕ → List ℕ → List (List ℕ)
+text_row name word = name ∷ word ∷ []
 
 -- a name and a number
 abbrev pub number_row : List ℕ → ℕ → List (List ℕ)
@@ -30,8 +34,8 @@ abbrev pub bytes_row : List ℕ → List (List ℕ)
 bytes_row bytes = codes "I" ∷ encode_lower bytes ∷ []
 
 -- the 32 bytes of the image from place 32 k on, or as many as there are
-abbrev pub image_row : List ℕ → ℕ → List (List ℕ)
-image_row bytes k = bytes_row (take 32 (drop (32 * k) bytes))
+abbrev pub bytes_row_at : List ℕ → ℕ → List (List ℕ)
+bytes_row_at bytes k = bytes_row (take 32 (drop (32 * k) bytes))
 
 -- an access
 abbrev pub entry_row : Entry → List (List ℕ)
@@ -72,12 +76,12 @@ count_row name n = codes "N" ∷ name ∷ decimal n ∷ []
 -- what was asked for
 unfoldable pub header_rows : Setup → List (List (List ℕ))
 header_rows setup =
-    word_row (codes "kmp-report") (codes "1")
-    ∷ word_row (codes "machine") (machine_name setup.machine)
+    text_row (codes "kmp-report") (codes "1")
+    ∷ text_row (codes "machine") (machine_name setup.machine)
     ∷ number_row (codes "cores") setup.cores
     ∷ number_row (codes "budget") setup.budget
-    ∷ word_row (codes "arbitration") (policy_name setup.policy)
-    ∷ word_row (codes "turns") (turns_name setup.turns)
+    ∷ text_row (codes "arbitration") (policy_name setup.policy)
+    ∷ text_row (codes "turns") (turns_name setup.turns)
     ∷ number_row (codes "seed") setup.seed
     ∷ number_row (codes "sets") setup.sets
     ∷ number_row (codes "ways") setup.ways
@@ -93,28 +97,16 @@ core_rows core ended =
     ∷ registers_row core 24 ended.state.regs
     ∷ []
 
+-- the row of the count at a place
+abbrev pub count_row_at : List ℕ → ℕ → List (List ℕ)
+count_row_at counts place = count_row (slice_index_or count_names place []) (slice_index counts place)
+
 -- the counts of accesses, of transactions, and of the cycles waited
 unfoldable pub access_count_rows : List ℕ → List (List (List ℕ))
-access_count_rows counts =
-    count_row (codes "retired") (slice_index counts 0)
-    ∷ count_row (codes "loads") (slice_index counts 1)
-    ∷ count_row (codes "stores") (slice_index counts 2)
-    ∷ count_row (codes "cas") (slice_index counts 3)
-    ∷ count_row (codes "swapped") (slice_index counts 4)
-    ∷ []
+access_count_rows counts = map (count_row_at counts) (range_with_len 0 5)
 
 unfoldable pub bus_count_rows : List ℕ → List (List (List ℕ))
-bus_count_rows counts =
-    count_row (codes "transactions") (slice_index counts 5)
-    ∷ count_row (codes "exclusive") (slice_index counts 6)
-    ∷ count_row (codes "owned") (slice_index counts 7)
-    ∷ count_row (codes "upgrades") (slice_index counts 8)
-    ∷ count_row (codes "flushes") (slice_index counts 9)
-    ∷ []
+bus_count_rows counts = map (count_row_at counts) (range_with_len 5 5)
 
 unfoldable pub wait_count_rows : List ℕ → List (List (List ℕ))
-wait_count_rows counts =
-    count_row (codes "wait-fetch") (slice_index counts 10)
-    ∷ count_row (codes "wait-operand") (slice_index counts 11)
-    ∷ count_row (codes "wait-access") (slice_index counts 12)
-    ∷ []
+wait_count_rows counts = map (count_row_at counts) (range_with_len 10 3)

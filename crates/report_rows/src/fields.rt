@@ -6,7 +6,7 @@ ghost use Rattle.row_reader.specs.Numbers.{exactly};
 ghost use Rattle.report_rows.specs.Reading.{policy_of, turns_of, kind_of, end_of, number_from, sets_of, place_of, place_from, some_word_of};
 
 use itoa::Buffer;
-use kmp_base::{Policy, Turns};
+use kmp_base::{MOST_SETS, Policy, Turns, named};
 use mips_isa::{Kind, Stop};
 use row_reader::{Parts, name, number_of, word_of};
 use timetable::End;
@@ -15,68 +15,39 @@ use timetable::End;
 pub(crate) fn policy_of(text: &[u8]) -> Option<Policy>
     ensures { result ≡ policy_of text.now }
 {
-    if text == b"fifo".as_slice() {
-        Some(Policy::Fifo)
-    } else if text == b"fixed".as_slice() {
-        Some(Policy::Fixed)
-    } else if text == b"round".as_slice() {
-        Some(Policy::Round)
-    } else if text == b"seeded".as_slice() {
-        Some(Policy::Seeded)
-    } else {
-        None
-    }
+    let policies = [Policy::Fifo, Policy::Fixed, Policy::Round, Policy::Seeded];
+    named(&policies.map(|policy| (policy.name(), policy)), text)
 }
 
 #[tactic(auto, unfolding(crate::specs::Reading::turns_of))]
 pub(crate) fn turns_of(text: &[u8]) -> Option<Turns>
     ensures { result ≡ turns_of text.now }
 {
-    if text == b"round".as_slice() {
-        Some(Turns::Round)
-    } else if text == b"seeded".as_slice() {
-        Some(Turns::Seeded)
-    } else if text == b"threads".as_slice() {
-        Some(Turns::Threads)
-    } else {
-        None
-    }
+    let turns = [Turns::Round, Turns::Seeded, Turns::Threads];
+    named(&turns.map(|turns| (turns.name(), turns)), text)
 }
 
 #[tactic(auto, unfolding(crate::specs::Reading::kind_of))]
 pub(crate) fn kind_of(text: &[u8]) -> Option<Kind>
     ensures { result ≡ kind_of text.now }
 {
-    if text == b"lw".as_slice() {
-        Some(Kind::Lw)
-    } else if text == b"sw".as_slice() {
-        Some(Kind::Sw)
-    } else if text == b"cas".as_slice() {
-        Some(Kind::Cas)
-    } else {
-        None
-    }
+    let kinds = [Kind::Lw, Kind::Sw, Kind::Cas];
+    named(&kinds.map(|kind| (kind.name(), kind)), text)
 }
 
 #[tactic(auto, unfolding(crate::specs::Reading::end_of))]
 pub(crate) fn end_of(text: &[u8]) -> Option<End>
     ensures { result ≡ end_of text.now }
 {
-    if text == b"offcode".as_slice() {
-        Some(End::Stopped(Stop::OffCode))
-    } else if text == b"halt".as_slice() {
-        Some(End::Stopped(Stop::Halt))
-    } else if text == b"misaligned".as_slice() {
-        Some(End::Stopped(Stop::Misaligned))
-    } else if text == b"outside".as_slice() {
-        Some(End::Stopped(Stop::Outside))
-    } else if text == b"codewrite".as_slice() {
-        Some(End::Stopped(Stop::CodeWrite))
-    } else if text == b"spent".as_slice() {
-        Some(End::Spent)
-    } else {
-        None
-    }
+    let ends = [
+        End::Stopped(Stop::OffCode),
+        End::Stopped(Stop::Halt),
+        End::Stopped(Stop::Misaligned),
+        End::Stopped(Stop::Outside),
+        End::Stopped(Stop::CodeWrite),
+        End::Spent,
+    ];
+    named(&ends.map(|end| (end.name(), end)), text)
 }
 
 #[tactic(auto, unfolding(crate::specs::Reading::number_from))]
@@ -94,8 +65,12 @@ pub(crate) fn sets_of(text: &[u8]) -> Option<u64>
     ensures found { result ≡ sets_of text.now }
     ensures within { IfSome result (λ n. n ≤ 256) }
 {
-    let n = number_from(text, 1, 256)?;
-    if 256 % n == 0 { Some(n) } else { None }
+    let n = number_from(text, 1, u64::from(MOST_SETS))?;
+    if u64::from(MOST_SETS) % n == 0 {
+        Some(n)
+    } else {
+        None
+    }
 }
 
 #[tactic(auto, unfolding(crate::specs::Reading::place_of))]

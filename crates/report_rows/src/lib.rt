@@ -1,4 +1,8 @@
 //! The rows of a report: each as text, and each read from its text.
+//!
+//! The laws that other crates cite:
+//! - `proofs/RowLaws`: what is read of a row is what the row spells.
+//! - `proofs/PlainRowLaws`: the rows are plain, so they can be told from a report's text.
 #![tactic(auto)]
 
 mod fields;
@@ -6,7 +10,7 @@ mod names;
 mod read;
 mod spell;
 
-pub use names::{end_name, kind_name, letter_name, stop_name};
+pub use names::{count_name, letter_name};
 pub use read::{
     EndRow, bytes_row, count_row, end_row, entry_row, fixed_row, last_row, memory_row, number_row,
     policy_row, registers_row, sets_row, turns_row,

@@ -11,10 +11,13 @@ use crate::fields::{
     some_word_of, turns_of,
 };
 use access_log::Entry;
-use kmp_base::{Policy, Turns};
+use kmp_base::{MOST_BUDGET, Policy, Turns};
 use mips_isa::Kind;
 use row_reader::{Parts, bytes, ended, field, name, number, optional_word, word};
 use timetable::End;
+
+/// More than any number of instructions or cycles, which a budget bounds.
+const MOST_TIME: u64 = MOST_BUDGET as u64 + 2;
 
 /// How a core ended, without its registers.
 #[derive(Clone, Copy)]
@@ -140,7 +143,7 @@ pub fn entry_row(row: &[u8], cores: u32, bytes: u32) -> Option<Entry>
 {
     let (_, rest) = name(Some(row), b"A")?;
     let (core, rest) = number(rest, u64::from(cores - 1))?;
-    let (nth, rest) = number(rest, 100002)?;
+    let (nth, rest) = number(rest, MOST_TIME)?;
     entry_access(rest, bytes, core as u32, nth as u32)
 }
 
@@ -150,7 +153,7 @@ fn end_numbers(rest: Parts, budget: u32, end: End) -> Option<EndRow>
     ensures { result ≡ end_numbers_of budget end (parts_left (option_copied rest.entry)) }
 {
     let (cycles, rest) = number(rest, u64::from(budget))?;
-    let (retired, rest) = number(rest, 100002)?;
+    let (retired, rest) = number(rest, MOST_TIME)?;
     let (pc, rest) = word(rest)?;
     let (dpc, rest) = word(rest)?;
     let told = EndRow {

@@ -1,14 +1,14 @@
 //! The rows of a report as text.
-ghost use Rattle.std.specs.Prelude.{◌≡◌, ◌+◌, ◌≤◌, ◌++◌, length, take, drop, map, flat_map, codes, decimal};
+ghost use Rattle.std.specs.Prelude.{◌≡◌, ◌+◌, ◌<◌, ◌≤◌, ◌++◌, length, take, drop, map, flat_map, codes, decimal};
 ghost use Rattle.std.specs.Int.{w32, to_le_bytes};
 ghost use Rattle.hex.specs.Hex.{encode_lower};
 ghost use Rattle.kmp_base.specs.Text.{hex8, hex4};
 ghost use Rattle.kmp_base.specs.Rows.{row_text};
 ghost use Rattle.row_reader.specs.Numbers.{word_or_dash};
 ghost use Rattle.report_rows.specs.Ends.{end_value};
-ghost use Rattle.report_rows.specs.Rows.{number_or_dash, word_row, number_row, count_row, bytes_row, entry_row, transaction_row, item_row, core_row, registers_row, memory_row, header_rows, core_rows, access_count_rows, bus_count_rows, wait_count_rows};
+ghost use Rattle.report_rows.specs.Rows.{number_or_dash, text_row, number_row, count_row_at, bytes_row, entry_row, transaction_row, item_row, core_row, registers_row, memory_row, header_rows, core_rows, access_count_rows, bus_count_rows, wait_count_rows};
 
-use crate::{Counts, MemoryWord, names};
+use crate::{Counts, MemoryWord, count_name, names};
 use access_log::{Entry, Item, Transaction};
 use byteorder::{ByteOrder, LittleEndian};
 use image_file::Spelling;
@@ -109,7 +109,7 @@ fn add_next(row: &mut Row, numbers: &mut Spelling)
 /// A name and a word.
 fn word(name: &str, word: &str) -> Row
     requires { length name.now + length word.now ≤ 120 }
-    ensures row { result ≡ row_text (word_row name.now word.now) }
+    ensures row { result ≡ row_text (text_row name.now word.now) }
 {
     let mut row = Row::new();
     row.text(name);
@@ -130,15 +130,15 @@ pub fn number(name: &str, n: u64) -> Row
     row
 }
 
-/// A count.
-fn count(name: &str, n: u64) -> Row
-    requires { length name.now ≤ 100 }
-    ensures row { result ≡ row_text (count_row name.now n) }
+/// The count at a place.
+fn count_at(counts: &Counts, place: usize) -> Row
+    requires { place < 13 }
+    ensures row { result ≡ row_text (count_row_at counts.now.values place) }
 {
     let mut row = Row::new();
     row.text("N");
-    add_word(&mut row, name);
-    add_number(&mut row, n);
+    add_word(&mut row, count_name(place));
+    add_number(&mut row, counts.values[place]);
     row.text("\n");
     row
 }
@@ -166,7 +166,7 @@ fn entry(entry: &Entry) -> Row
     row.text("A");
     add_number(&mut row, u64::from(entry.core));
     add_number(&mut row, u64::from(entry.nth));
-    add_word(&mut row, names::kind_name(entry.kind));
+    add_word(&mut row, entry.kind.name());
     add_hex8(&mut row, entry.addr);
     add_hex8(&mut row, entry.old);
     add_hex8_or_dash(&mut row, entry.new);
@@ -208,7 +208,7 @@ fn core(core: u64, ended: &CoreEnd) -> Row
     let mut row = Row::new();
     row.text("C");
     add_number(&mut row, core);
-    add_word(&mut row, names::end_name(ended.end));
+    add_word(&mut row, ended.end.name());
     add_number(&mut row, u64::from(ended.cycles));
     add_number(&mut row, u64::from(ended.retired));
     add_hex8(&mut row, ended.state.pc);
@@ -252,11 +252,11 @@ pub fn header(setup: &Setup) -> [Row; 9]
 {
     [
         word("kmp-report", "1"),
-        word("machine", names::machine_name(setup.machine)),
+        word("machine", setup.machine.name()),
         number("cores", u64::from(setup.cores)),
         number("budget", u64::from(setup.budget)),
-        word("arbitration", names::policy_name(setup.policy)),
-        word("turns", names::turns_name(setup.turns)),
+        word("arbitration", setup.policy.name()),
+        word("turns", setup.turns.name()),
         number("seed", u64::from(setup.seed)),
         number("sets", u64::from(setup.sets)),
         number("ways", u64::from(setup.ways)),
@@ -284,11 +284,11 @@ pub fn access_counts(counts: &Counts) -> [Row; 5]
     ensures rows { result ≡ map row_text (access_count_rows counts.now.values) }
 {
     [
-        count("retired", counts.values[0]),
-        count("loads", counts.values[1]),
-        count("stores", counts.values[2]),
-        count("cas", counts.values[3]),
-        count("swapped", counts.values[4]),
+        count_at(counts, 0),
+        count_at(counts, 1),
+        count_at(counts, 2),
+        count_at(counts, 3),
+        count_at(counts, 4),
     ]
 }
 
@@ -298,11 +298,11 @@ pub fn bus_counts(counts: &Counts) -> [Row; 5]
     ensures rows { result ≡ map row_text (bus_count_rows counts.now.values) }
 {
     [
-        count("transactions", counts.values[5]),
-        count("exclusive", counts.values[6]),
-        count("owned", counts.values[7]),
-        count("upgrades", counts.values[8]),
-        count("flushes", counts.values[9]),
+        count_at(counts, 5),
+        count_at(counts, 6),
+        count_at(counts, 7),
+        count_at(counts, 8),
+        count_at(counts, 9),
     ]
 }
 
@@ -312,8 +312,8 @@ pub fn wait_counts(counts: &Counts) -> [Row; 3]
     ensures rows { result ≡ map row_text (wait_count_rows counts.now.values) }
 {
     [
-        count("wait-fetch", counts.values[10]),
-        count("wait-operand", counts.values[11]),
-        count("wait-access", counts.values[12]),
+        count_at(counts, 10),
+        count_at(counts, 11),
+        count_at(counts, 12),
     ]
 }

@@ -4,7 +4,7 @@ use Rattle.std.specs.List.{flat_map}
 use Rattle.std.specs.Int.{w32, to_le_bytes}
 use Rattle.kmp_base.specs.Rows.{row_text}
 use Rattle.image_file.specs.Value.{ImageValue, image_numbers, image_bytes}
-use Rattle.report_rows.specs.Rows.{bytes_row, image_row}
+use Rattle.report_rows.specs.Rows.{bytes_row, bytes_row_at}
 
 drop_numbers : (j : ℕ) (numbers : List ℕ) → drop (4 * j) (flat_map (to_le_bytes w32) numbers) ≡ flat_map (to_le_bytes w32) (drop j numbers)
 drop_numbers zero numbers = refl
@@ -36,7 +36,7 @@ row_of_numbers image k =
     ∙ ap (take 32) (sym (drop_numbers (8 * k) numbers) ∙ ap (λ n. drop n (flat_map (to_le_bytes w32) numbers)) (sym place))
 
 -- the row of the numbers from place 8 k on is the row of the bytes from place 32 k on
-pub image_row_at : (image : ImageValue) (k : ℕ) (numbers text : List ℕ) → numbers ≡ drop (8 * k) (image_numbers image) → text ≡ row_text (bytes_row (flat_map (to_le_bytes w32) (take 8 numbers))) → text ≡ row_text (image_row (image_bytes image) k)
+pub image_row_at : (image : ImageValue) (k : ℕ) (numbers text : List ℕ) → numbers ≡ drop (8 * k) (image_numbers image) → text ≡ row_text (bytes_row (flat_map (to_le_bytes w32) (take 8 numbers))) → text ≡ row_text (bytes_row_at (image_bytes image) k)
 image_row_at image k numbers text left is =
     is ∙ ap (λ ns. row_text (bytes_row (flat_map (to_le_bytes w32) (take 8 ns)))) left ∙ ap (λ bytes. row_text (bytes_row bytes)) (row_of_numbers image k)
 

@@ -1,6 +1,6 @@
 pub mod ImageLemmas
 pub mod ImageLaws
 pub mod TextLemmas
-pub mod CountLemmas
+pub mod CountLaws
 pub mod FormReplay
 pub mod FormLaws

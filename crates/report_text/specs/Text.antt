@@ -4,14 +4,14 @@ use Rattle.std.specs.List.{range_with_len}
 use Rattle.kmp_base.specs.Rows.{text_of}
 use Rattle.image_file.specs.Value.{ImageValue, image_bytes}
 use Rattle.report_rows.specs.Ends.{EndValue}
-use Rattle.report_rows.specs.Rows.{number_row, image_row, item_row, memory_row, header_rows, core_rows, access_count_rows, bus_count_rows, wait_count_rows}
+use Rattle.report_rows.specs.Rows.{number_row, bytes_row_at, item_row, memory_row, header_rows, core_rows, access_count_rows, bus_count_rows, wait_count_rows}
 use Rattle.report_text.specs.Report.{ReportValue}
 
 -- the number of the image's bytes, and the bytes, 32 in a row
 unfoldable pub image_rows : ImageValue → List (List (List ℕ))
 image_rows image =
     let bytes = image_bytes image in
-    number_row (codes "image") (length bytes) ∷ map (image_row bytes) (range_with_len 0 ((length bytes + 31) / 32))
+    number_row (codes "image") (length bytes) ∷ map (bytes_row_at bytes) (range_with_len 0 ((length bytes + 31) / 32))
 
 -- the cores from a number on
 abbrev pub rows_of_cores : ℕ → List EndValue → List (List (List ℕ))

@@ -44,7 +44,7 @@ fn is_of_kind(item: &Item, kind: Kind) -> bool
 }
 
 /// How many accesses of a kind there are.
-#[tactic(auto, using(crate::proofs::CountLemmas::count_by_at_entry))]
+#[tactic(auto, using(crate::proofs::CountLaws::count_by_at_entry))]
 fn accesses(items: &[Item], kind: Kind) -> u64
     ensures { result ≡ count_by (is_of_kind kind) (entries items.now) }
 {
@@ -66,7 +66,7 @@ fn is_swap(item: &Item) -> bool
 }
 
 /// How many compare-and-swaps stored.
-#[tactic(auto, using(crate::proofs::CountLemmas::count_by_at_entry))]
+#[tactic(auto, using(crate::proofs::CountLaws::count_by_at_entry))]
 fn swaps(items: &[Item]) -> u64
     ensures { result ≡ count_by is_swap (entries items.now) }
 {

@@ -1,7 +1,8 @@
 //! The report of a run, and its one text.
 //!
-//! Laws: `proofs/CountLemmas`: the items that pass a test are as many as such entries. `proofs/ImageLaws`: an image
-//! that its bytes mean is good.
+//! The laws that other crates cite:
+//! - `proofs/CountLaws`: the items that are an entry with a property are as many as such entries.
+//! - `proofs/ImageLaws`: an image that its bytes mean is good.
 #![tactic(auto)]
 
 mod build;

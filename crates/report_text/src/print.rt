@@ -5,7 +5,7 @@ ghost use Rattle.kmp_base.specs.Rows.{text_of};
 ghost use Rattle.kmp_base.specs.Streams.{Writes};
 ghost use Rattle.image_file.specs.Value.{image_bytes};
 ghost use Rattle.report_rows.specs.Ends.{end_value};
-ghost use Rattle.report_rows.specs.Rows.{image_row, item_row, memory_row};
+ghost use Rattle.report_rows.specs.Rows.{bytes_row_at, item_row, memory_row};
 ghost use Rattle.report_text.specs.Text.{image_rows, rows_of_cores, count_rows, run_rows, outcome_rows, report_text};
 
 use crate::Report;
@@ -26,7 +26,7 @@ fn put_rows<K: Sink>(rows: &[Row], sink: &mut K) -> Result<(), WriteFault>
 
 fn print_image_rows<K: Sink>(image: &Image, rows: u32, sink: &mut K) -> Result<(), WriteFault>
     ensures { Writes K.held K.faults sink.old sink.new result
-        (text_of (map (image_row (image_bytes image.now)) (range_with_len 0 rows))) }
+        (text_of (map (bytes_row_at (image_bytes image.now)) (range_with_len 0 rows))) }
 {
     let mut numbers = Spelling::new(image);
     for _ in 0..rows {

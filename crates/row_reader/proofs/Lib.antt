@@ -5,4 +5,4 @@ pub mod LoopLaws
 pub mod NumberLaws
 pub mod PlainLaws
 pub mod TextLaws
-pub mod CutLemmas
+pub mod CutLaws

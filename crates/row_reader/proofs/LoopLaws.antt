@@ -5,7 +5,8 @@ use Rattle.row_reader.specs.declared.stuck.Stuck.{Stuck}
 use Rattle.row_reader.specs.declared.stuck.Stuck.TheVariants.{Memory, At}
 use Rattle.row_reader.specs.Rows.{Row, Rows, begins_marked}
 use Rattle.row_reader.specs.Fields.{IsCutOff}
-use Rattle.row_reader.specs.Reading.{◌>>=◌, chosen, row_at, many_at, each_at}
+use Rattle.kmp_base.specs.Bind.{◌>>=◌}
+use Rattle.row_reader.specs.Reading.{chosen, row_at, many_at, each_at}
 use Rattle.row_reader.specs.Gives.{Fails}
 
 -- no row is read where the first isn't whole

@@ -4,7 +4,8 @@ use Rattle.std.proofs.Common.{◌≡◌, ℕ, Bool, true, false, cond, List, [],
 use Rattle.std.proofs.lemmas.Bool.{both_ways, cases_Bool}
 use Rattle.std.proofs.lemmas.Option.{same_Some}
 use Rattle.row_reader.specs.Rows.{Row, Rows}
-use Rattle.row_reader.specs.Reading.{◌>>=◌, chosen, many_at, each_at}
+use Rattle.kmp_base.specs.Bind.{◌>>=◌}
+use Rattle.row_reader.specs.Reading.{chosen, many_at, each_at}
 use Rattle.row_reader.specs.Starts.{Stops, IsPart, AreFit, EachFits, each_spell}
 use Rattle.row_reader.proofs.PartLaws.{done, ok_parts, bind_ok, bind_err, chosen_ok, chosen_err, none_some, head_is, tail_is, then_read, given_fits, StopsBefore, IsPartBefore, part_before, then_part_before, then_part}
 

@@ -2,7 +2,8 @@
 use Rattle.std.proofs.Common.{◌≡◌, [], ◌∷◌, ◌++◌, Option, Some, None, Result, Ok, Err, refl, sym, ap, subst, ◌∙◌, append_assoc, ◌⊎◌, inl, inr}
 use Rattle.std.proofs.lemmas.List.{append-nil}
 use Rattle.row_reader.specs.Rows.{Row, Rows}
-use Rattle.row_reader.specs.Reading.{◌>>=◌, chosen, row_at}
+use Rattle.kmp_base.specs.Bind.{◌>>=◌}
+use Rattle.row_reader.specs.Reading.{chosen, row_at}
 use Rattle.row_reader.specs.Starts.{Stops, IsPart}
 
 -- ---- steps

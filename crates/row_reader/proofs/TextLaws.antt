@@ -7,7 +7,7 @@ use Rattle.std.proofs.lemmas.List.Elements.{All-from_recursion, All-nil, All-con
 use Rattle.kmp_base.specs.Rows.{row_behind, row_text, text_of}
 use Rattle.row_reader.specs.Rows.{Row, Rows, is_feed, is_blank, rows_of_pieces, rows_of, IsPlain, IsPlainRow}
 use Rattle.row_reader.specs.Fields.{parts_of}
-use Rattle.row_reader.proofs.CutLemmas.{first_row, rows_empty}
+use Rattle.row_reader.proofs.CutLaws.{first_row, rows_empty}
 
 -- ---- lines
 

@@ -1,12 +1,7 @@
 -- Reading rows from the front: a value and the rows behind it, or the rows at which reading is stuck.
 use Rattle.std.specs.Prelude.{ℕ, Bool, if◌then◌else◌, List, [], ◌∷◌, Option, Some, None, Result, Ok, Err}
+use Rattle.kmp_base.specs.Bind.{◌>>=◌}
 use Rattle.row_reader.specs.Rows.{Row, Rows}
-
--- one step and then another, which knows the value of the first; stuck where either is
-infixl 10 ◌>>=◌
-abbrev pub ◌>>=◌ : {A B : Type 0} → Result A Rows → (A → Result B Rows) → Result B Rows
-(Ok x) >>= f = f x
-(Err stuck) >>= f = Err stuck
 
 -- the value of a row, and the rows behind it; stuck at the row where it has none
 abbrev pub chosen : {X : Type 0} → Option X → Row → Rows → Result (X × Rows) Rows

@@ -1,4 +1,14 @@
 //! A text as rows of parts, and what is read from its rows.
+//!
+//! The laws that other crates cite:
+//! - `proofs/CutLaws`: where a text and a row are cut.
+//! - `proofs/TextLaws`: rows of plain parts can be told from their text.
+//! - `proofs/PlainLaws`: which parts are plain.
+//! - `proofs/NumberLaws`: the spellings of values are read as these values, and nothing else is read.
+//! - `proofs/FieldLaws`: fields one after another in a row.
+//! - `proofs/PartLaws`: a part of one row, and a part with what follows it.
+//! - `proofs/ManyLaws`: a part that comes many times, and one that comes once for each of a list.
+//! - `proofs/LoopLaws`: reading rows one after another, as a loop does.
 #![tactic(auto)]
 
 mod fields;

@@ -3,3 +3,4 @@ pub mod Outcome
 pub mod Cycles
 pub mod Right
 pub mod Turns
+pub mod Names

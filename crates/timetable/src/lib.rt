@@ -23,7 +23,19 @@ pub enum End {
 }
 
 impl End {
+    ghost use Rattle.std.specs.Prelude.{length};
+    ghost use Rattle.timetable.specs.Names.{end_name};
     ghost use Rattle.timetable.specs.Outcome.{is_halt};
+
+    pub fn name(self) -> &'static str
+        ensures name { result.now ≡ end_name self }
+        ensures short { length result.now ≤ 10 }
+    {
+        match self {
+            End::Stopped(stop) => stop.name(),
+            End::Spent => "spent",
+        }
+    }
 
     /// Whether the core ended at a `halt`.
     pub fn is_halt(self) -> bool

@@ -6,7 +6,7 @@ use Rattle.report_rows.specs.Ends.{end_value}
 use Rattle.report_rows.specs.declared.MemoryWord.{MemoryWord}
 use Rattle.report_text.specs.Counts.{counts_of}
 use Rattle.report_text.specs.Report.{ReportValue, words_past}
-use Rattle.replayer.specs.Judgments.{Judgment, first_difference, words_judged, counts_judged}
+use Rattle.replayer.specs.Judgments.{Judgment, first_told, words_judged, counts_judged}
 use Rattle.replayer.specs.Cores.{cores_judged}
 use Rattle.replayer.specs.Outcome.{cores_line, words_line, counts_line}
 use Rattle.replayer.proofs.JudgeLemmas.{first_before, first_behind}
@@ -67,8 +67,8 @@ returns c =
     ∙ ap (counts_of (map end_value c.report.inside.cores.items)) c.items.ensures.items
     ∙ ap (λ (r : ReportValue). counts_of r.cores r.items) c.report.view_is in
     let counts_are : c.report.inside.counts.values ≡ report.counts = ap (λ (r : ReportValue). r.counts) c.report.view_is in
-    let none_before : first_difference (cores report machine ++ words report machine) ≡ None =
+    let none_before : first_told (cores report machine ++ words report machine) ≡ None =
     first_behind (cores report machine) (words report machine) (sym (rw c.cores_line.ensures at c.in_default.ensures.first))
     ∙ sym (rw (c.words_line-line.ensures, words_are, code_is, c.in_default.ensures.memory) at c.in_default-words_difference.ensures) in
-    let told : c.counts_difference.result ≡ first_difference (counts report) = rw (c.counts_line.ensures, due_is, counts_are) at c.counts_difference.ensures in
+    let told : c.counts_difference.result ≡ first_told (counts report) = rw (c.counts_line.ensures, due_is, counts_are) at c.counts_difference.ensures in
     told ∙ sym (first_behind (cores report machine ++ words report machine) (counts report) none_before)

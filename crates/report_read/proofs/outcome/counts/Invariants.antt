@@ -2,8 +2,9 @@ use Rattle.std.proofs.Common.{◌≡◌, length, take, drop}
 use Rattle.row_reader.specs.Rows.{rows_of}
 use Rattle.row_reader.specs.Reading.{row_at, each_at}
 use Rattle.row_reader.proofs.LoopLaws.{with_front}
+use Rattle.report_rows.specs.Names.{count_names}
 use Rattle.report_rows.specs.Reading.{count_row_of}
-use Rattle.report_read.specs.Reading.{count_names, counts_at}
+use Rattle.report_read.specs.Reading.{counts_at}
 use Rattle.report_read.proofs.outcome.counts.Given as goal
 
 abbrev pub ghost-first_row : goal.ghost-first_row

@@ -1,8 +1,8 @@
 use Rattle.std.proofs.Common.{◌≡◌, ℕ, true, false, ◌==◌, List, [], ◌∷◌, length, Ok, Err, sym, ap, ◌∙◌, arith}
 use Rattle.std.proofs.lemmas.Bool.{eqb-true}
 use Rattle.row_reader.specs.Rows.{Rows, rows_of}
-use Rattle.row_reader.specs.Reading.{◌>>=◌}
-use Rattle.row_reader.proofs.CutLemmas.{rows_some, rows_empty}
+use Rattle.kmp_base.specs.Bind.{◌>>=◌}
+use Rattle.row_reader.proofs.CutLaws.{rows_some, rows_empty}
 use Rattle.report_text.specs.Report.{ReportValue}
 use Rattle.report_read.specs.Reading.{report_at, whole, read_of}
 use Rattle.report_read.proofs.read.read.Goals as goal

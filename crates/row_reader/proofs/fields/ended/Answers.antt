@@ -1,5 +1,5 @@
 use Rattle.std.proofs.Common.{sym}
-use Rattle.row_reader.proofs.CutLemmas.{not_ended}
+use Rattle.row_reader.proofs.CutLaws.{not_ended}
 use Rattle.row_reader.proofs.fields.ended.Goals as goal
 
 pub returns-in-Some-clause-found : goal.returns-in-Some-clause-found

@@ -1,5 +1,5 @@
 use Rattle.std.proofs.Common.{sym}
-use Rattle.row_reader.proofs.CutLemmas.{row_is, text_is_whole, cut_none}
+use Rattle.row_reader.proofs.CutLaws.{row_is, text_is_whole, cut_none}
 use Rattle.row_reader.proofs.rows.cut_row.Goals as goal
 
 pub returns-in-Some-clause-some : goal.returns-in-Some-clause-some

@@ -1,5 +1,5 @@
 use Rattle.std.proofs.Common.{sym}
-use Rattle.row_reader.proofs.CutLemmas.{part_is, last_part_is}
+use Rattle.row_reader.proofs.CutLaws.{part_is, last_part_is}
 use Rattle.row_reader.proofs.rows.first_part.Goals as goal
 
 pub returns-in-Some : goal.returns-in-Some

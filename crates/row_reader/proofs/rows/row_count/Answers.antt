@@ -1,5 +1,5 @@
 use Rattle.std.proofs.Common.{◌≤◌, length, arith}
-use Rattle.row_reader.proofs.CutLemmas.{no_rows}
+use Rattle.row_reader.proofs.CutLaws.{no_rows}
 use Rattle.row_reader.proofs.rows.row_count.Goals as goal
 
 pub returns-clause-rows : goal.returns-clause-rows

@@ -3,7 +3,7 @@ use Rattle.row_reader.specs.Rows.{rows_of}
 use Rattle.row_reader.proofs.LoopLaws.{cut_off}
 use Rattle.report_rows.specs.Reading.{bytes_row_of}
 use Rattle.report_read.specs.Reading.{image_row_of}
-use Rattle.report_read.proofs.image.image_row.Goals as goal
+use Rattle.report_read.proofs.image.last_image_row.Goals as goal
 
 pub returns-in-None-clause-found : goal.returns-in-None-clause-found
 unfolding image_row_of bytes_row_of

@@ -1,6 +1,6 @@
 -- The rows of a report are plain, so they can be told from its text.
 use Rattle.std.proofs.Common.{◌≡◌, ℕ, zero, suc, ◌^◌, ◌<◌, ◌≤◌, true, List, [], ◌∷◌, ◌++◌, take, drop, map, refl, arith}
-use Rattle.std.specs.Prelude.{codes, slice_index}
+use Rattle.std.specs.Prelude.{codes, slice_index, slice_index_or}
 use Rattle.std.specs.List.{AllByRecursion}
 use Rattle.kmp_base.specs.Text.{hex8}
 use Rattle.kmp_base.specs.declared.setup.Setup.{Setup}
@@ -22,9 +22,12 @@ use Rattle.row_reader.specs.Rows.{IsPlain, IsPlainRow}
 use Rattle.row_reader.proofs.PlainLaws.{passes, plain_by_test, decimal_plain, hex8_plain, bytes_plain, word_or_dash_plain}
 use Rattle.report_rows.specs.declared.MemoryWord.{MemoryWord}
 use Rattle.report_rows.specs.Ends.{EndValue}
-use Rattle.report_rows.specs.Names.{machine_name, policy_name, turns_name, kind_name, end_name}
+use Rattle.kmp_base.specs.Names.{machine_name, policy_name, turns_name}
+use Rattle.mips_isa.specs.Names.{kind_name}
+use Rattle.timetable.specs.Names.{end_name}
+use Rattle.report_rows.specs.Names.{count_names}
 use Rattle.report_rows.specs.Bounds.{IsHeader, IsEntry, IsItem, IsEnd, IsCount}
-use Rattle.report_rows.specs.Rows.{word_row, number_row, bytes_row, entry_row, item_row, core_row, registers_row, memory_row, count_row, header_rows, core_rows, access_count_rows, bus_count_rows, wait_count_rows}
+use Rattle.report_rows.specs.Rows.{text_row, number_row, bytes_row, entry_row, item_row, core_row, registers_row, memory_row, count_row_at, header_rows, core_rows, access_count_rows, bus_count_rows, wait_count_rows}
 
 -- ---- names
 
@@ -60,8 +63,8 @@ end_passes ends.Spent = refl
 
 -- ---- single rows
 
-word_row_plain : (name word : List ℕ) → passes name ≡ true → passes word ≡ true → IsPlainRow (word_row name word)
-word_row_plain name word n w = (plain_by_test name n, (plain_by_test word w, tt))
+text_row_plain : (name word : List ℕ) → passes name ≡ true → passes word ≡ true → IsPlainRow (text_row name word)
+text_row_plain name word n w = (plain_by_test name n, (plain_by_test word w, tt))
 
 pub number_row_plain : (name : List ℕ) (n : ℕ) → IsPlain name → n < 2 ^ 64 → IsPlainRow (number_row name n)
 number_row_plain name n is small = (is, (decimal_plain n small, tt))
@@ -93,17 +96,17 @@ memory_plain word = (plain_by_test (codes "W") refl, (hex8_plain word.addr, (hex
 pub header_plain : (setup : Setup) → IsHeader setup → AllByRecursion IsPlainRow (header_rows setup)
 unfolding header_rows
 header_plain setup is = (
-  word_row_plain (codes "kmp-report") (codes "1") refl refl,
+  text_row_plain (codes "kmp-report") (codes "1") refl refl,
   (
-    word_row_plain (codes "machine") (machine_name setup.machine) refl (machine_passes setup.machine),
+    text_row_plain (codes "machine") (machine_name setup.machine) refl (machine_passes setup.machine),
     (
       number_row_plain (codes "cores") setup.cores (plain_by_test (codes "cores") refl) (omega (arith, is.limits.cores)),
       (
         number_row_plain (codes "budget") setup.budget (plain_by_test (codes "budget") refl) (omega (arith, is.limits.budget)),
         (
-          word_row_plain (codes "arbitration") (policy_name setup.policy) refl (policy_passes setup.policy),
+          text_row_plain (codes "arbitration") (policy_name setup.policy) refl (policy_passes setup.policy),
           (
-            word_row_plain (codes "turns") (turns_name setup.turns) refl (turns_passes setup.turns),
+            text_row_plain (codes "turns") (turns_name setup.turns) refl (turns_passes setup.turns),
             (
               number_row_plain (codes "seed") setup.seed (plain_by_test (codes "seed") refl) (omega (arith, is.seed)),
               (
@@ -163,47 +166,15 @@ count_at [] are k = omega arith
 count_at (count ∷ counts) are zero = are.0
 count_at (count ∷ counts) are (suc k) = count_at counts are.1 k
 
-count_row_plain : (name counts : List ℕ) (k : ℕ) → passes name ≡ true → AllByRecursion IsCount counts → IsPlainRow (count_row name (slice_index counts k))
-count_row_plain name counts k plain are =
-    (plain_by_test (codes "N") refl, (plain_by_test name plain, (decimal_plain (slice_index counts k) (count_at counts are k), tt)))
+count_row_plain : (counts : List ℕ) (k : ℕ) → passes (slice_index_or count_names k []) ≡ true → AllByRecursion IsCount counts → IsPlainRow (count_row_at counts k)
+count_row_plain counts k plain are =
+    (plain_by_test (codes "N") refl, (plain_by_test (slice_index_or count_names k []) plain, (decimal_plain (slice_index counts k) (count_at counts are k), tt)))
 
 pub count_rows_plain : (counts : List ℕ) → AllByRecursion IsCount counts
     → AllByRecursion IsPlainRow (access_count_rows counts ++ bus_count_rows counts ++ wait_count_rows counts)
 unfolding access_count_rows bus_count_rows wait_count_rows
-count_rows_plain counts are = (
-  count_row_plain (codes "retired") counts 0 refl are,
-  (
-    count_row_plain (codes "loads") counts 1 refl are,
-    (
-      count_row_plain (codes "stores") counts 2 refl are,
-      (
-        count_row_plain (codes "cas") counts 3 refl are,
-        (
-          count_row_plain (codes "swapped") counts 4 refl are,
-          (
-            count_row_plain (codes "transactions") counts 5 refl are,
-            (
-              count_row_plain (codes "exclusive") counts 6 refl are,
-              (
-                count_row_plain (codes "owned") counts 7 refl are,
-                (
-                  count_row_plain (codes "upgrades") counts 8 refl are,
-                  (
-                    count_row_plain (codes "flushes") counts 9 refl are,
-                    (
-                      count_row_plain (codes "wait-fetch") counts 10 refl are,
-                      (
-                        count_row_plain (codes "wait-operand") counts 11 refl are,
-                        (count_row_plain (codes "wait-access") counts 12 refl are, tt),
-                      ),
-                    ),
-                  ),
-                ),
-              ),
-            ),
-          ),
-        ),
-      ),
-    ),
-  ),
-)
+count_rows_plain counts are =
+    (row 0 refl, (row 1 refl, (row 2 refl, (row 3 refl, (row 4 refl, (row 5 refl, (row 6 refl, (row 7 refl, (row 8 refl, (row 9 refl, (row 10 refl, (row 11 refl, (row 12 refl, tt)))))))))))))
+  where
+    row : (k : ℕ) → passes (slice_index_or count_names k []) ≡ true → IsPlainRow (count_row_at counts k)
+    row k plain = count_row_plain counts k plain are
