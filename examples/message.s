@@ -3,8 +3,7 @@
         la    $t0, message
         la    $t1, flag
         bne   $a0, $zero, receive
-        nop                             # delay slot: li would stand there by its first word alone
-        li    $t2, 42
+        li    $t2, 42                   # its first word stands in the delay slot
         sw    $t2, 0($t0)
         li    $t3, 1
         sw    $t3, 0($t1)
