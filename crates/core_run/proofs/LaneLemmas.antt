@@ -28,8 +28,8 @@ use Rattle.mem_port.proofs.LoadedLaws.{request-asks, request-proper, request-no_
 use Rattle.mem_port.proofs.SideLaws.{mark-evolves, evolves-twice}
 use Rattle.core_run.specs.declared.lane.Lane.{Lane}
 use Rattle.core_run.specs.declared.lane.Came.{Came}
-use Rattle.core_run.specs.Cycle.{opens, sends, takes, steps, cycle_calls, lane_after, moved_in, wait_left, late_reply, found_by, UsesAsks, WaitsLess, WasOn, IsDrained}
-use Rattle.core_run.specs.Lanes.{HasCome, IsCoupled, SideSends, PortHolds, StopsWhereDead, IsQuiet}
+use Rattle.core_run.specs.Cycle.{opens, sends, takes, steps, cycle_calls, moved_in, wait_left, late_reply, found_by, WasOn, IsDrained}
+use Rattle.core_run.specs.Lanes.{HasCome, IsCoupled, PortHolds, StopsWhereDead, IsQuiet}
 use Rattle.core_run.specs.Meets.{Makes, Opens, TakesUp, Fits, StepsOn, Meets, Closes, entries_by}
 use Rattle.core_run.proofs.LeadLaws.{lead-append}
 
@@ -89,7 +89,7 @@ keeps-then a b d h k = record {
 
 -- The answer to what is wanted.
 
-executed-none : (core : ℕ) (want : Option Request) → executed_by core want None ≡ []
+pub executed-none : (core : ℕ) (want : Option Request) → executed_by core want None ≡ []
 executed-none core None = refl
 executed-none core (Some r) = refl
 

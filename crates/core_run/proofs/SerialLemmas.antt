@@ -16,7 +16,7 @@ use Rattle.mem_port.specs.Side.{SideView, Evolves, Unasked, mark, LeavesOthers, 
 use Rattle.mem_port.proofs.SideLaws.{mark-evolves}
 use Rattle.core_run.specs.declared.lane.Lane.{Lane}
 use Rattle.core_run.specs.Cycle.{wait_left}
-use Rattle.core_run.specs.Lanes.{HasCome, IsCoupled, IsFinished, IsStarted, IsClosed, IsNoTighter, bound_of}
+use Rattle.core_run.specs.Lanes.{HasCome, IsCoupled, IsFinished, IsStarted, IsClosed, IsNoTighter}
 use Rattle.core_run.specs.Serial.{IsOn, SeatHolds, SeatAt, IsStartSeat, IsServedAt}
 use Rattle.core_run.proofs.TurnLemmas.{once-along}
 

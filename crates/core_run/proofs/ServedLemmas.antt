@@ -15,7 +15,7 @@ use Rattle.mem_port.specs.Side.{SideView, KeepsSide, LeavesOthers, side_of, mark
 use Rattle.core_run.specs.declared.lane.Lane.{Lane}
 use Rattle.core_run.specs.declared.lane.Came.{Came}
 use Rattle.core_run.specs.Cycle.{IsCycle, IsEnding, late_reply}
-use Rattle.core_run.specs.Lanes.{HasCome, IsCoupled, IsFinished, IsClosed, IsQuiet, Progressed, IsNoTighter, pace_after}
+use Rattle.core_run.specs.Lanes.{HasCome, IsCoupled, IsFinished, IsQuiet, Progressed, IsNoTighter, pace_after}
 use Rattle.core_run.specs.Serial.{IsOn, IsOver, IsServedAt, Receives, goes_on, end_after}
 use Rattle.core_run.proofs.CycleLaws.{cycle-paces, cycle-no_tighter, cycle-core, ending-core, closed-after}
 use Rattle.core_run.proofs.EndLaws.{live-after, end-fits, stopped-closed, stays-closed, dead-stops, last_pace, last-clocks, last-bound, last-accesses, last-tells, last-live, last-same}

@@ -29,9 +29,9 @@ use Rattle.mem_port.specs.Pace.{Pace, executed_by, one_if}
 use Rattle.mem_port.specs.Side.{SideView, Mark, LeavesOthers, Evolves, mark}
 use Rattle.core_run.specs.declared.lane.Lane.{Lane}
 use Rattle.core_run.specs.declared.lane.Came.{Came}
-use Rattle.core_run.specs.Cycle.{IsCycle, IsEnding, IsDrained, UsesAsks, WaitsLess, cycle_calls, opens, sends, takes, steps, withdraws, wait_left}
-use Rattle.core_run.specs.Lanes.{HasCome, PortHolds, IsCoupled, StopsWhereDead, IsFinished, IsClosed, IsQuiet, Progressed, IsNoTighter, bound_of, pace_after}
-use Rattle.core_run.specs.Serial.{EndFits, IsOn, IsOver, SeatHolds, AddsOwn, HasChoice, Leads, IsServedAt, Receives, goes_on, end_after}
+use Rattle.core_run.specs.Cycle.{IsCycle, IsEnding, cycle_calls, opens, sends, takes, steps, withdraws}
+use Rattle.core_run.specs.Lanes.{PortHolds, IsCoupled, IsClosed, IsQuiet, Progressed}
+use Rattle.core_run.specs.Serial.{IsOn, SeatHolds, AddsOwn, HasChoice, Leads, Receives, end_after}
 use Rattle.core_run.proofs.LeadLaws.{lead-append, lead-along}
 use Rattle.core_run.proofs.OwnLemmas.{entries-own, own-all}
 use Rattle.core_run.proofs.DoneLaws.{taken-all}

@@ -1,7 +1,7 @@
 -- The header and the image's rows but the last are read as what they spell.
 use Rattle.std.proofs.Common.{◌≡◌, ℕ, ◌+◌, ◌-◌, ◌*◌, ◌/◌, ◌^◌, ◌<◌, ◌≤◌, zero, suc, List, [], ◌∷◌, ◌++◌, length, take, drop, map, Ok, refl, sym, ap, subst, ◌∙◌, arith, length-append, length-drop, drop-drop}
 use Rattle.std.specs.Prelude.{codes, replicate}
-use Rattle.std.specs.List.{AllByRecursion, range_with_len}
+use Rattle.std.specs.List.{range_with_len}
 use Rattle.std.proofs.lemmas.List.{append-nil, take-append-drop, length-take-le, length-replicate, take-append-le, drop-append-le, take_all, nil_from_length}
 use Rattle.kmp_base.specs.declared.setup.Setup.{Setup}
 use Rattle.kmp_base.specs.declared.setup.MachineKind.TheVariants.{Plain}

@@ -1,6 +1,6 @@
 use Rattle.std.specs.Prelude.{option_map}
 use Rattle.access_log.specs.Requests.{fetch_of}
-use Rattle.std.proofs.Common.{◌≡◌, refl, sym, subst}
+use Rattle.std.proofs.Common.{refl, sym, subst}
 use Rattle.core_run.specs.Lanes.{HasCome}
 use Rattle.core_run.proofs.LaneLemmas.{makes-then, open-lives, fetch-held, closed-was, closed-taken, closed-asks, runs-drained}
 use Rattle.core_run.proofs.lane.finish.Goals as goal
