@@ -89,7 +89,7 @@ keeps-then a b d h k = record {
 
 -- The answer to what is wanted.
 
-pub executed-none : (core : ℕ) (want : Option Request) → executed_by core want None ≡ []
+executed-none : (core : ℕ) (want : Option Request) → executed_by core want None ≡ []
 executed-none core None = refl
 executed-none core (Some r) = refl
 
@@ -108,8 +108,8 @@ taken-none p want old new same = same ∙ sym (ap (λ more. old.taken ++ more) (
 taken-some : (p : Port) (r : Request) (word : ℕ) (old new : SideView) → new.taken ≡ old.taken ++ entries_of p r word → new.taken ≡ old.taken ++ entries_by p (Some r) (Some word)
 taken-some p r word old new taken = taken ∙ ap (λ more. old.taken ++ more) (sym (entries-some p r word))
 
-takes-wanted : (answer : Option ℕ) (p : Port) (r : Request) (old new : SideView) → mark (old.port p) ≡ Served r → SideTakes answer p r old new → TakesUp p (Some r) answer old new
-takes-wanted None p r old new on h = record {
+takes-wanted : (answer : Option ℕ) (p : Port) (r : Request) (old new : SideView) → SideTakes answer p r old new → TakesUp p (Some r) answer old new
+takes-wanted None p r old new h = record {
   kept = h.stays.kept;
   other = record { port = λ q ne c. h.stays.ports q c; asks = λ q ne c. h.stays.asks q c; patience = λ told q ne c. h.patience told q c };
   port = ap mark h.port;
@@ -118,7 +118,7 @@ takes-wanted None p r old new on h = record {
   fits = tt;
   patience = λ told unmet. (h.some_left told, h.patience told p refl);
 }
-takes-wanted (Some word) p r old new on h = record {
+takes-wanted (Some word) p r old new h = record {
   kept = h.1.0.kept;
   other = h.1.0.other;
   port = ap mark h.1.0.port;
@@ -131,7 +131,7 @@ takes-wanted (Some word) p r old new on h = record {
 pub takes-answer : (answer : Option ℕ) (p : Port) (want : Option Request) (old new : SideView) → is_some want ≡ true → PortHolds (is_some want) (mark (old.port p)) want
     → ((r : Request) → mark (old.port p) ≡ Served r → SideTakes answer p r old new) → TakesUp p want answer old new
 takes-answer answer p None old new some h taken = cc
-takes-answer answer p (Some r) old new some h taken = takes-wanted answer p r old new h (taken r h)
+takes-answer answer p (Some r) old new some h taken = takes-wanted answer p r old new (taken r h)
 
 -- The end of what is open.
 
@@ -197,9 +197,9 @@ either-right : (a b : Bool) → b ≡ true → (a || b) ≡ true
 either-right true b on = refl
 either-right false b on = on
 
-wait_less : (is_open : Bool) (a b bound bound′ x : ℕ) → bound′ ≡ bound → b ≤ a → x ≤ wait_left is_open b bound′ → x ≤ wait_left is_open a bound
-wait_less true a b bound bound′ x same h k = omega arith
-wait_less false a b bound bound′ x same h k = omega arith
+wait_less : (is_open : Bool) (a b bound bound_after x : ℕ) → bound_after ≡ bound → b ≤ a → x ≤ wait_left is_open b bound_after → x ≤ wait_left is_open a bound
+wait_less true a b bound bound_after x same h k = omega arith
+wait_less false a b bound bound_after x same h k = omega arith
 
 fits-fetch : (image side_image : ImageValue) (core : ℕ) (want answer : Option ℕ) → side_image ≡ image → Fits side_image (Fetch core) (option_map fetch_of want) answer → FetchFits image want answer
 fits-fetch image side_image core want None same h = tt

@@ -87,7 +87,7 @@ pub trait CoreSide {
     /// So do two calls, one after the other.
     ghost goes_on: { (core : ℕ) (s t u : Self) → leaves_others core s t → leaves_others core t u → leaves_others core s u };
 
-    /// No call makes no step.
+    /// Where no call is made, no step is.
     ghost at_rest: { (core : ℕ) (s : Self) → paid core 0 s s };
 
     /// Their steps add up.
