@@ -89,7 +89,7 @@ keeps-then a b d h k = record {
 
 -- The answer to what is wanted.
 
-executed-none : (core : ℕ) (want : Option Request) → executed_by core want None ≡ []
+pub executed-none : (core : ℕ) (want : Option Request) → executed_by core want None ≡ []
 executed-none core None = refl
 executed-none core (Some r) = refl
 
