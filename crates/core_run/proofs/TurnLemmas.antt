@@ -1,37 +1,37 @@
 -- What the turn of a core makes of its seat, of its calls and of the history.
 use Rattle.std.proofs.Common.{◌≡◌, ◌≢◌, ℕ, ◌+◌, ◌≤◌, inl, inr, Bool, true, false, Some, None, List, [], ◌∷◌, ◌++◌, length, append-nil, refl, ap, sym, ◌∙◌, subst, arith}
-use Rattle.std.specs.Prelude.{Option, is_some, option_map, ◌==◌, if◌then◌else◌, map}
+use Rattle.std.specs.Prelude.{Option, is_some, ◌==◌, if◌then◌else◌, map, flat_map, ◌||◌}
 use Rattle.std.specs.List.{AllByRecursion}
 use Rattle.std.proofs.lemmas.Bool.{eq-eqb}
 use Rattle.std.proofs.lemmas.List.{append_cancel_left, map-append}
+use Rattle.std.proofs.lemmas.Grind.{flat_map-append}
 use Rattle.access_log.specs.declared.Entry.{Entry}
 use Rattle.access_log.specs.declared.Item.{Item}
 use Rattle.access_log.specs.declared.request.Request.{Request}
 use Rattle.access_log.specs.Items.{entries, own_items}
-use Rattle.access_log.specs.Requests.{entry_of, fetch_of}
+use Rattle.access_log.specs.Requests.{entry_of}
 use Rattle.access_log.specs.Stamps.{Stamp, stamped}
 use Rattle.access_log.proofs.ItemLaws.{entries-append, own_items-append}
 use Rattle.timetable.specs.declared.End.{End}
 use Rattle.timetable.specs.declared.End.TheVariants.{Spent}
 use Rattle.mem_port.specs.declared.port.Port.{Port}
-use Rattle.mem_port.specs.declared.port.Port.TheVariants.{Fetch, Access}
+use Rattle.mem_port.specs.declared.port.Port.TheVariants.{Access}
 use Rattle.mem_port.specs.declared.port.PortState.{PortState}
 use Rattle.mem_port.specs.declared.port.PortState.TheVariants.{Free, Asked, Waiting, Answered, Closed}
 use Rattle.mem_port.specs.declared.port.Withdrawal.{Withdrawal}
-use Rattle.mem_port.specs.declared.port.Moved.{Moved}
 use Rattle.mem_port.specs.declared.engine.Progress.{Progress}
 use Rattle.mem_port.specs.declared.engine.Progress.TheVariants as progress
-use Rattle.mem_port.specs.Calls.{Call}
+use Rattle.mem_port.specs.Calls.{Call, Lead}
 use Rattle.mem_port.specs.Ports.{IsWaiting, HoldsEntry, taken_of}
 use Rattle.mem_port.specs.Memory.{MemoryView, IsLawful, IsAtOnce, committed}
 use Rattle.mem_port.specs.Engine.{EngineView}
-use Rattle.mem_port.specs.Pace.{Pace, executed_by, one_if}
+use Rattle.mem_port.specs.Pace.{Pace, executed_by, is_unmet, one_if}
 use Rattle.mem_port.specs.Side.{SideView, Mark, LeavesOthers, Evolves, mark}
 use Rattle.core_run.specs.declared.lane.Lane.{Lane}
 use Rattle.core_run.specs.declared.lane.Came.{Came}
-use Rattle.core_run.specs.Cycle.{IsCycle, IsEnding, cycle_calls, opens, sends, takes, steps, withdraws}
+use Rattle.core_run.specs.Cycle.{IsCycle, IsEnding, cycle_calls, end_calls, lane_after}
 use Rattle.core_run.specs.Lanes.{PortHolds, IsCoupled, IsClosed, IsQuiet, Progressed}
-use Rattle.core_run.specs.Serial.{IsOn, SeatHolds, AddsOwn, HasChoice, Leads, Receives, end_after}
+use Rattle.core_run.specs.Serial.{IsOn, SeatHolds, AddsOwn, EndsOrNot, IsTurn, Leads, Receives, end_after}
 use Rattle.core_run.proofs.LeadLaws.{lead-append, lead-along}
 use Rattle.core_run.proofs.OwnLemmas.{entries-own, own-all}
 use Rattle.core_run.proofs.DoneLaws.{taken-all}
@@ -99,61 +99,42 @@ module _ (core : ℕ) (old new : MemoryView) (was : IsLawful old) (is : IsLawful
 
 -- The calls of a turn.
 
-steps-choice : (choice : ℕ) (step : Option Moved) → AllByRecursion (HasChoice choice) (steps choice step)
-steps-choice choice None = tt
-steps-choice choice (Some result) = (refl, tt)
-
-sends-choice : (choice : ℕ) (p : Port) (want : Option Request) → AllByRecursion (HasChoice choice) (sends p want)
-sends-choice choice p None = tt
-sends-choice choice p (Some r) = (tt, (tt, tt))
-
-takes-choice : {W : Type 0} (choice : ℕ) (p : Port) (want : Option W) (answer : Option ℕ) → AllByRecursion (HasChoice choice) (takes p want answer)
-takes-choice choice p None answer = tt
-takes-choice choice p (Some want) answer = (tt, tt)
-
-withdraws-choice : (choice : ℕ) (is_open : Bool) (p : Port) (answer : Withdrawal) → AllByRecursion (HasChoice choice) (withdraws is_open p answer)
-withdraws-choice choice false p answer = tt
-withdraws-choice choice true p answer = (tt, tt)
-
-cycle-choice : (choice : ℕ) (e : EngineView) (lane : Lane) (came : Came) → AllByRecursion (HasChoice choice) (cycle_calls choice e lane came)
-cycle-choice choice e lane came =
-    let accesses = sends (Access lane.core) (opens lane.open_access e.access) in
-    let fetches = sends (Fetch lane.core) (option_map fetch_of (opens lane.open_fetch e.fetch)) in
-    let replies = takes (Access lane.core) e.access came.reply in
-    let words = takes (Fetch lane.core) e.fetch came.fetched in
-    let moves = steps choice came.step in
-    all-append (HasChoice choice) accesses (fetches ++ (replies ++ (words ++ moves))) (sends-choice choice (Access lane.core) (opens lane.open_access e.access))
-    (all-append (HasChoice choice) fetches (replies ++ (words ++ moves)) (sends-choice choice (Fetch lane.core) (option_map fetch_of (opens lane.open_fetch e.fetch)))
-    (all-append (HasChoice choice) replies (words ++ moves) (takes-choice choice (Access lane.core) e.access came.reply)
-    (all-append (HasChoice choice) words moves (takes-choice choice (Fetch lane.core) e.fetch came.fetched) (steps-choice choice came.step))))
+one-turn : {M : Type 0} (makes : Call → M → M → Type 0) (calls : List Call) (old new : M) → IsTurn calls → Lead makes calls old new → Leads makes old new
+one-turn makes calls old new turn lead = (calls ∷ [], (lead-append makes calls [] old new new lead refl, (turn, tt)))
 
 module _ {E S M : Type 0} {view : E → EngineView} {times : Pace → E → Type 0} {side : S → ℕ → SideView} {makes : Call → S → S → Type 0} {pays : ℕ → ℕ → S → S → Type 0}
-    (does : Call → M → M → Type 0) (held : S → M) (each : (call : Call) (s t : S) → makes call s t → does call (held s) (held t)) where
-  pub cycle-leads : {choice : ℕ} {came : Came} {result : Progress} {e f : E} {s t : S} {before after : Lane} → choice ≡ 0
-      → IsCycle view times side makes pays choice came result e f s t before after → Leads does (held s) (held t)
-  cycle-leads {choice} {came} {result} {e} {f} {s} {t} {before} {after} zero cycle =
-      let calls = cycle_calls choice (view e) before came in (
-        calls,
-        (
-          lead-along makes does held each calls s t cycle.calls,
-          subst (λ (k : ℕ). AllByRecursion (HasChoice k) calls) zero (cycle-choice choice (view e) before came),
-        ),
-      )
+    (does : Call → M → M → Type 0) (held : S → M) (each : (call : Call) (s t : S) → makes call s t → does call (held s) (held t))
+    {choice : ℕ} {came : Came} {result : Progress} {e f : E} {s t : S} {before after : Lane} (zero : choice ≡ 0) (cycle : IsCycle view times side makes pays choice came result e f s t before after) where
+  stepped : is_some came.step ≡ (is_unmet (view e).access came.reply || is_unmet (view e).fetch came.fetched)
+  stepped = let P : Lane → Type 0 = λ l. is_some came.step ≡ (l.open_access || l.open_fetch) in subst P cycle.lane cycle.step
 
-  pub ending-leads : {access fetch : Withdrawal} {e f : E} {s t : S} {before after : Lane}
-      → IsEnding view times side makes pays access fetch e f s t before after → Leads does (held s) (held t)
-  ending-leads {access} {fetch} {e} {f} {s} {t} {before} {after} ending =
-      let accesses = withdraws before.open_access (Access before.core) access in
-      let fetches = withdraws before.open_fetch (Fetch before.core) fetch in (
-        accesses ++ fetches,
-        (
-          lead-along makes does held each (accesses ++ fetches) s t ending.calls,
-          all-append (HasChoice 0) accesses fetches (withdraws-choice 0 before.open_access (Access before.core) access) (withdraws-choice 0 before.open_fetch (Fetch before.core) fetch),
-        ),
-      )
+  cycled : Lead does (cycle_calls 0 (view e) before came) (held s) (held t)
+  cycled =
+      subst (λ (k : ℕ). Lead does (cycle_calls k (view e) before came) (held s) (held t)) zero
+      (lead-along makes does held each (cycle_calls choice (view e) before came) s t cycle.calls)
+
+  turn-of : (ending : List Call) → EndsOrNot (lane_after (view e) before came) ending → IsTurn (cycle_calls 0 (view e) before came ++ ending)
+  turn-of ending ends = record { engine = view e; lane = before; came = came; ending = ending; are = refl; step = stepped; ends = ends }
+
+  -- A cycle is a turn.
+  pub cycle-leads : Leads does (held s) (held t)
+  cycle-leads =
+      let calls = cycle_calls 0 (view e) before came in
+      one-turn does (calls ++ []) (held s) (held t) (turn-of [] (inl refl)) (lead-append does calls [] (held s) (held t) (held t) cycled refl)
+
+  -- So is a cycle with the end of its core.
+  pub ended-leads : {access fetch : Withdrawal} {g : E} {u : S} {last : Lane} → IsEnding view times side makes pays access fetch f g t u after last → Leads does (held s) (held u)
+  ended-leads {access} {fetch} {g} {u} {last} ending =
+      let now = lane_after (view e) before came in
+      let withdrawn = subst (λ (l : Lane). Lead does (end_calls l access fetch) (held t) (held u)) cycle.lane (lead-along makes does held each (end_calls after access fetch) t u ending.calls) in
+      one-turn does (cycle_calls 0 (view e) before came ++ end_calls now access fetch) (held s) (held u) (turn-of (end_calls now access fetch) (inr (access, (fetch, refl))))
+      (lead-append does (cycle_calls 0 (view e) before came) (end_calls now access fetch) (held s) (held t) (held u) cycled withdrawn)
 
 pub leads-twice : {M : Type 0} (makes : Call → M → M → Type 0) (old mid new : M) → Leads makes old mid → Leads makes mid new → Leads makes old new
-leads-twice makes old mid new h k = (h.0 ++ k.0, (lead-append makes h.0 k.0 old mid new h.1.0 k.1.0, all-append (HasChoice 0) h.0 k.0 h.1.1 k.1.1))
+leads-twice {M} makes old mid new h k =
+    let all = λ (turns : List (List Call)). flat_map (λ turn. turn) turns in
+    let L : List Call → Type 0 = λ calls. Lead makes calls old new in
+    (h.0 ++ k.0, (subst L (sym (flat_map-append (λ turn. turn) h.0 k.0)) (lead-append makes (all h.0) (all k.0) old mid new h.1.0 k.1.0), all-append IsTurn h.0 k.0 h.1.1 k.1.1))
 
 pub leads-none : {M : Type 0} (makes : Call → M → M → Type 0) (m : M) → Leads makes m m
 leads-none makes m = ([], (refl, tt))

@@ -104,6 +104,11 @@ abbrev pub withdraws : Bool → Port → Withdrawal → List Call
 withdraws false p answer = []
 withdraws true p answer = Withdraw p answer ∷ []
 
+-- The calls of the end of a core: what is open is withdrawn, the access before the fetch.
+abbrev pub end_calls : Lane → Withdrawal → Withdrawal → List Call
+end_calls lane access fetch =
+    withdraws lane.open_access (Access lane.core) access ++ withdraws lane.open_fetch (Fetch lane.core) fetch
+
 -- The word that a request had found which was withdrawn.
 abbrev pub found_by : Withdrawal → Option ℕ
 found_by withdrawal.Withdrawn = None
@@ -129,7 +134,7 @@ IsDrained {E} view times true answer e f =
 pub record IsEnding {E S : Type 0} (view : E → EngineView) (times : Pace → E → Type 0) (side : S → ℕ → SideView) (makes : Call → S → S → Type 0) (pays : ℕ → ℕ → S → S → Type 0)
     (access fetch : Withdrawal) (e f : E) (s t : S) (before after : Lane) : Type 0 where
   -- These calls were made, and no other.
-  pub calls : Lead makes (withdraws before.open_access (Access before.core) access ++ withdraws before.open_fetch (Fetch before.core) fetch) s t
+  pub calls : Lead makes (end_calls before access fetch) s t
   pub access_was : before.open_access ≡ true → (r : Request) → (view e).access ≡ Some r → WasOn ((side s before.core).port (Access before.core)) r access
   pub fetch_was : before.open_fetch ≡ true → (addr : ℕ) → (view e).fetch ≡ Some addr → WasOn ((side s before.core).port (Fetch before.core)) (fetch_of addr) fetch
   pub lane : after ≡ record { core = before.core; open_fetch = false; open_access = false }

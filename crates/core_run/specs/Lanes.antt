@@ -12,7 +12,7 @@ use Rattle.mem_port.specs.declared.port.Port.TheVariants.{Fetch, Access}
 use Rattle.mem_port.specs.declared.engine.Progress.{Progress}
 use Rattle.mem_port.specs.declared.engine.Progress.TheVariants as progress
 use Rattle.mem_port.specs.Engine.{EngineView, IsSound}
-use Rattle.mem_port.specs.Pace.{Pace, Service, after_clock}
+use Rattle.mem_port.specs.Pace.{Pace, after_clock}
 use Rattle.mem_port.specs.Side.{Mark, Unasked, Sent, Served, Shut, mark, SideView, KeepsSide, LeavesPort}
 use Rattle.core_run.specs.declared.lane.Lane.{Lane}
 use Rattle.core_run.specs.declared.lane.Came.{Came}
@@ -83,16 +83,6 @@ pub record IsClosed (lane : Lane) : Type 0 where
 -- By how many own steps at most an answer comes later than it could have, where distances are told.
 abbrev pub bound_of : SideView → Option ℕ
 bound_of s = if s.tells_distances then Some s.bound else None
-
--- The pace at which a side meets the wants of an engine that was served so far.
-abbrev pub pace_of : SideView → Lane → Service → Pace
-pace_of s lane service = record {
-  service = service;
-  bound = bound_of s;
-  fetch_left = wait_left lane.open_fetch (s.patience (Fetch lane.core)) s.bound;
-  access_left = wait_left lane.open_access (s.patience (Access lane.core)) s.bound;
-  is_drained = false;
-}
 
 -- A pace that is no tighter than a side: each want may stay unmet for as long at least as its request may wait.
 pub record IsNoTighter (pace : Pace) (s : SideView) (lane : Lane) : Type 0 where

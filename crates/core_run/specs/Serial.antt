@@ -1,5 +1,5 @@
 -- Cores that have their cycles in turn.
-use Rattle.std.specs.Prelude.{◌≡◌, ℕ, ◌+◌, ◌<◌, ◌≤◌, ◌⊎◌, ◌==◌, if◌then◌else◌, Bool, true, false, ◌&&◌, not, Option, Some, None, List, ◌++◌, length, slice_get, map}
+use Rattle.std.specs.Prelude.{◌≡◌, ℕ, ◌+◌, ◌<◌, ◌≤◌, ◌⊎◌, ◌==◌, if◌then◌else◌, Bool, true, false, ◌&&◌, ◌||◌, not, is_some, Option, Some, None, List, [], ◌++◌, length, slice_get, map, flat_map}
 use Rattle.std.specs.List.{AllByRecursion}
 use Rattle.mips_isa.specs.declared.Stop.{Stop}
 use Rattle.image_file.specs.Value.{ImageValue, code_lines, start_memory, start_states}
@@ -19,13 +19,16 @@ use Rattle.mem_port.specs.declared.port.Port.TheVariants.{Fetch, Access}
 use Rattle.mem_port.specs.declared.engine.Progress.{Progress}
 use Rattle.mem_port.specs.declared.engine.Progress.TheVariants as progress
 use Rattle.mem_port.specs.Loaded.{stop}
-use Rattle.mem_port.specs.Calls.{Call, Ask, Serve, Step, Take, Withdraw, Lead}
+use Rattle.mem_port.specs.declared.port.Withdrawal.{Withdrawal}
+use Rattle.mem_port.specs.Calls.{Call, Lead}
 use Rattle.mem_port.specs.Memory.{MemoryView, IsAtOnce, committed}
 use Rattle.mem_port.specs.Engine.{EngineView}
-use Rattle.mem_port.specs.Pace.{Pace}
+use Rattle.mem_port.specs.Pace.{Pace, is_unmet}
 use Rattle.mem_port.specs.Side.{side_of}
 use Rattle.core_run.specs.declared.lane.Lane.{Lane}
+use Rattle.core_run.specs.declared.lane.Came.{Came}
 use Rattle.core_run.specs.declared.serial.Seat.{Seat}
+use Rattle.core_run.specs.Cycle.{cycle_calls, end_calls, lane_after}
 use Rattle.core_run.specs.Lanes.{HasCome, IsCoupled, IsFinished, IsStarted, IsClosed, IsNoTighter, bound_of}
 
 -- An end is the stop at which the core stands, within the budget, or comes after the whole budget.
@@ -87,17 +90,23 @@ pub record IsRun (image : ImageValue) (cores budget : ℕ) (caches : Option Cach
   pub ends : (core : ℕ) (ended : CoreEnd) → slice_get outcome.cores core ≡ Some ended
       → EndFits ended.end budget ended.cycles (stop image ended.state)
 
--- A step is made with this choice.
-abbrev pub HasChoice : ℕ → Call → Type 0
-HasChoice choice (Ask p r) = Unit {0}
-HasChoice choice (Serve p) = Unit {0}
-HasChoice choice (Step chosen result) = chosen ≡ choice
-HasChoice choice (Take p answer) = Unit {0}
-HasChoice choice (Withdraw p answer) = Unit {0}
+-- The calls of the end of a core, or none.
+abbrev pub EndsOrNot : Lane → List Call → Type 0
+EndsOrNot lane calls = (calls ≡ []) ⊎ ((access : Withdrawal) × ((fetch : Withdrawal) × (calls ≡ end_calls lane access fetch)))
 
--- Calls of turns lead from one memory to another: each step has the choice 0.
+-- The calls of a turn: those of a cycle of a core, with the choice 0, and those of its end, where it ends by that.
+pub record IsTurn (calls : List Call) : Type 0 where
+  pub engine : EngineView
+  pub lane : Lane
+  pub came : Came
+  pub ending : List Call
+  pub are : calls ≡ cycle_calls 0 engine lane came ++ ending
+  pub step : is_some came.step ≡ (is_unmet engine.access came.reply || is_unmet engine.fetch came.fetched)
+  pub ends : EndsOrNot (lane_after engine lane came) ending
+
+-- Turns lead from one memory to another.
 abbrev pub Leads : {M : Type 0} → (Call → M → M → Type 0) → M → M → Type 0
-Leads {M} makes old new = (calls : List Call) × (Lead makes calls old new × AllByRecursion (HasChoice 0) calls)
+Leads {M} makes old new = (turns : List (List Call)) × (Lead makes (flat_map (λ turn. turn) turns) old new × AllByRecursion IsTurn turns)
 
 -- Whether a core that ended so could go on: where its budget is spent.
 abbrev pub goes_on : Option End → Bool

@@ -1,14 +1,12 @@
 //! Cores that take turns on one memory: in each round every core has one cycle, by rising number.
 ghost use Rattle.std.specs.Prelude.{◌≡◌, ◌≤◌, ◌+◌, ℕ, [], List, Some, None, vec_len, vec_capacity, slice_get, length};
-ghost use Rattle.std.specs.List.{AllByRecursion};
 ghost use Rattle.timetable.specs.declared.CoreEnd.{CoreEnd};
 ghost use Rattle.timetable.specs.declared.End.{End};
-ghost use Rattle.mem_port.specs.Calls.{Call, Lead};
 ghost use Rattle.mem_port.specs.Memory.{IsLawful, IsFresh, IsAtOnce, Keeps, Settles};
 ghost use Rattle.mem_port.specs.Pace.{Pace, IsFirstPace};
 ghost use Rattle.mem_port.specs.Side.{LeavesOthers, ServesCore};
 ghost use Rattle.core_run.specs.Lanes.{IsClosed};
-ghost use Rattle.core_run.specs.Serial.{SeatAt, IsRun, AreAt, AreFirst, HasChoice, Leads, IsServedAt, Receives, AreServed, IsServedRun, IsEndOf, end_after};
+ghost use Rattle.core_run.specs.Serial.{SeatAt, IsRun, AreAt, AreFirst, Leads, IsServedAt, Receives, AreServed, IsServedRun, IsEndOf, end_after};
 ghost use Rattle.core_run.specs.declared.serial.Seat.{Seat};
 
 use crate::lane::{cycle, finish};
@@ -171,8 +169,7 @@ pub fn run_seats<E: TimedEngine, M: MemoryCore>(
     requires room { vec_len seats ≤ vec_capacity ends }
     requires empty { ends.items ≡ [] }
     ensures run { IsRun (M.view memory).image (M.view memory).cores budget (M.view memory).caches result }
-    ensures made { (last : M) × ((calls : List Call) × (Lead M.makes calls memory last
-        × (AllByRecursion (HasChoice 0) calls × Settles (M.view last) result.words result.items))) }
+    ensures made { (last : M) × (Leads M.makes memory last × Settles (M.view last) result.words result.items) }
     ensures served { ((core : ℕ) (s : Seat E) → slice_get seats.items core ≡ Some s → (pace : Pace) → IsFirstPace pace → E.timed pace s.engine)
         → (paces : ℕ → Pace) × IsServedRun E.view E.rows E.timed (M.view memory) budget result paces }
 {

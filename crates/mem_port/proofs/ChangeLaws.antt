@@ -48,10 +48,10 @@ change-lawful p state old new law h = rw (h.kept.image, h.kept.cores, h.kept.cac
       (λ q ne k e. (let C : Port → Type 0 = λ r. HoldsCode old.image (old.port r) in subst C e (law.fetched k))) (Fetch core) core refl;
   served = λ core. each-port p state old.port new.port h.is h.ports (λ q s. (k : ℕ) → Access k ≡ q → HoldsEntry k (own_items new.history k) s) h.entry
       (λ q ne k e. (
-        let own = h.others k (λ same. ne (sym e ∙ same)) in
-        let E : List Entry → Type 0 = λ es. HoldsEntry k es (old.port (Access k)) in
-        let A : Port → Type 0 = λ r. HoldsEntry k (own_items new.history k) (old.port r) in
-        subst A e (subst E (sym own) (law.served k)))) (Access core) core refl;
+      let own = h.others k (λ same. ne (sym e ∙ same)) in
+      let E : List Entry → Type 0 = λ es. HoldsEntry k es (old.port (Access k)) in
+      let A : Port → Type 0 = λ r. HoldsEntry k (own_items new.history k) (old.port r) in
+      subst A e (subst E (sym own) (law.served k)))) (Access core) core refl;
   waiting = h.waiting;
   near = h.near;
   unloaded = h.unloaded;

@@ -8,7 +8,7 @@ use Rattle.core_run.specs.Lanes.{HasCome, IsCoupled}
 use Rattle.core_run.specs.Serial.{IsServedAt, Leads}
 use Rattle.core_run.proofs.CycleLaws.{cycle-core, ending-core}
 use Rattle.core_run.proofs.EndLaws.{dead-stops}
-use Rattle.core_run.proofs.TurnLemmas.{as_now, none-is, is-on, cycle-leads, ending-leads, leads-twice}
+use Rattle.core_run.proofs.TurnLemmas.{as_now, none-is, is-on, cycle-leads, ended-leads}
 use Rattle.core_run.proofs.ServedLemmas.{next-on, ended-over, turn-on, turn-ended}
 use Rattle.core_run.proofs.serial.play.Goals as goal
 
@@ -62,8 +62,7 @@ pub returns-clause-made : goal.returns-clause-made
 returns-clause-made g c =
     let held = λ (s : MutBor g.row.M.Denot). s.now in
     as_now (λ (m : g.row.M.Denot). Leads g.M.MemoryCore.makes c.args.memory.now m) c.finish.new.side.now (search rules)
-    (leads-twice g.M.MemoryCore.makes c.args.memory.now c.cycle-progress.new.side.now c.finish.new.side.now
-    (cycle-leads g.M.MemoryCore.makes held (λ call s t h. h.0) refl c.cycle-progress.ensures.cycle.1) (ending-leads g.M.MemoryCore.makes held (λ call s t h. h.0) c.finish.ensures.ending.1.1))
+    (ended-leads g.M.MemoryCore.makes held (λ call s t h. h.0) refl c.cycle-progress.ensures.cycle.1 c.finish.ensures.ending.1.1)
 
 pub returns-clause-others : goal.returns-clause-others
 returns-clause-others g c =

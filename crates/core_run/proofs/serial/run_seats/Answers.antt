@@ -31,8 +31,7 @@ returns-clause-run g c =
 
 pub returns-clause-made : goal.returns-clause-made
 returns-clause-made g c =
-    let made = c.play_all.ensures.made in
-    (c.play_all.new.memory, (made.0, (made.1.0, (made.1.1, c.settle-words.ensures.settles))))
+    (c.play_all.new.memory, (c.play_all.ensures.made, c.settle-words.ensures.settles))
 
 pub returns-clause-served : goal.returns-clause-served
 returns-clause-served g c tells =
