@@ -9,7 +9,7 @@ use Rattle.mips_isa.specs.declared.Kind.TheVariants.{Fetch}
 use Rattle.access_log.specs.declared.Entry.{Entry}
 use Rattle.timetable.specs.declared.End.{End}
 use Rattle.row_reader.specs.Rows.{Row}
-use Rattle.row_reader.specs.Fields.{◌>>?◌, field_at, ended}
+use Rattle.row_reader.specs.Fields.{◌>>=◌, field_at, ended}
 use Rattle.row_reader.specs.Numbers.{exactly, word_of}
 use Rattle.row_reader.proofs.PartLaws.{IsRow}
 use Rattle.row_reader.proofs.FieldLaws.{IsField, then_field, last_field, row_as}
@@ -185,23 +185,23 @@ numbers_are : (z : List ℕ) (a b c d e f g h : ℕ) → length z ≡ 8 → numb
 numbers_are z a b c d e f g h long p q r s t u v w = let is = make_eight_is z long in cc
 
 -- one step and then another, in other groups
-then_then : {A B C : Type 0} (first : Option A) (f : A → Option B) (g : B → Option C) → ((first >>? f) >>? g) ≡ (first >>? λ a. f a >>? g)
+then_then : {A B C : Type 0} (first : Option A) (f : A → Option B) (g : B → Option C) → ((first >>= f) >>= g) ≡ (first >>= λ a. f a >>= g)
 then_then None f g = refl
 then_then (Some a) f g = refl
 
-then_same : {A B : Type 0} (first : Option A) (f g : A → Option B) → ((a : A) → f a ≡ g a) → (first >>? f) ≡ (first >>? g)
+then_same : {A B : Type 0} (first : Option A) (f g : A → Option B) → ((a : A) → f a ≡ g a) → (first >>= f) ≡ (first >>= g)
 then_same None f g same = refl
 then_same (Some a) f g same = same a
 
 two_then : {X : Type 0} (row : Row) (next : List ℕ × Row → Option X)
-    → (two_words_at row >>? next) ≡ (field_at word_of row >>? λ a. field_at word_of a.1 >>? λ b. next (a.0 ∷ b.0 ∷ [], b.1))
+    → (two_words_at row >>= next) ≡ (field_at word_of row >>= λ a. field_at word_of a.1 >>= λ b. next (a.0 ∷ b.0 ∷ [], b.1))
 unfolding two_words_at
 two_then row next =
     then_then (field_at word_of row) _ next
     ∙ then_same (field_at word_of row) _ _ (λ a. then_then (field_at word_of a.1) _ next)
 
 four_then : {X : Type 0} (row : Row) (next : List ℕ × Row → Option X)
-    → (four_words_at row >>? next) ≡ (field_at word_of row >>? λ a. field_at word_of a.1 >>? λ b. field_at word_of b.1 >>? λ c. field_at word_of c.1 >>? λ d.
+    → (four_words_at row >>= next) ≡ (field_at word_of row >>= λ a. field_at word_of a.1 >>= λ b. field_at word_of b.1 >>= λ c. field_at word_of c.1 >>= λ d.
     next (a.0 ∷ b.0 ∷ c.0 ∷ d.0 ∷ [], d.1))
 unfolding four_words_at
 four_then row next =

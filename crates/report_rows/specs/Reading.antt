@@ -1,7 +1,7 @@
 -- What is read of each row of a report, from its parts.
 use Rattle.std.specs.Prelude.{ℕ, ◌-◌, ◌%◌, ◌^◌, ◌==◌, ◌&&◌, nat_lt, nat_le, if◌then◌else◌, Bool, List, [], ◌∷◌, ◌++◌, codes, decimal, Option, Some, None}
 use Rattle.row_reader.specs.Rows.{Row}
-use Rattle.row_reader.specs.Fields.{◌>>?◌, field_at, ended}
+use Rattle.row_reader.specs.Fields.{◌>>=◌, field_at, ended}
 use Rattle.row_reader.specs.Numbers.{number_of, word_of, optional_word_of, bytes_of, exactly}
 use Rattle.kmp_base.specs.Names.{named, with_names, policy_name, turns_name, every_policy, every_turns}
 use Rattle.kmp_base.specs.declared.setup.Policy.{Policy}
@@ -50,7 +50,7 @@ end_of text = named (with_names end_name every_end) text
 -- these parts and no others
 unfoldable pub fixed_of : Row → Row → Option (Unit {0})
 fixed_of [] row = ended tt row
-fixed_of (part ∷ parts) row = field_at (exactly part) row >>? λ p. fixed_of parts p.1
+fixed_of (part ∷ parts) row = field_at (exactly part) row >>= λ p. fixed_of parts p.1
 
 -- a value behind a name
 abbrev pub behind_name : {X : Type 0} → (List ℕ → Option X) → List ℕ → Row → Option X
@@ -61,11 +61,11 @@ behind_name value_of name row = do
 
 -- a number from a least to a most
 unfoldable pub number_from : ℕ → ℕ → List ℕ → Option ℕ
-number_from least most text = number_of most text >>? λ n. if nat_le least n then Some n else None
+number_from least most text = number_of most text >>= λ n. if nat_le least n then Some n else None
 
 -- a power of two up to 256: these are the divisors of 256
 unfoldable pub sets_of : List ℕ → Option ℕ
-sets_of text = number_from 1 256 text >>? λ n. if 256 % n == 0 then Some n else None
+sets_of text = number_from 1 256 text >>= λ n. if 256 % n == 0 then Some n else None
 
 -- the number of a row of this name, within its limits
 unfoldable pub number_row_of : List ℕ → ℕ → ℕ → Row → Option ℕ
@@ -95,7 +95,7 @@ is_place bytes addr = addr % 4 == 0 && nat_lt addr bytes
 
 -- the address of a word within so many bytes
 unfoldable pub place_of : ℕ → List ℕ → Option ℕ
-place_of bytes text = word_of text >>? λ addr. if is_place bytes addr then Some addr else None
+place_of bytes text = word_of text >>= λ addr. if is_place bytes addr then Some addr else None
 
 -- the words of an access, behind its core, its number, its kind and its address
 unfoldable pub entry_words_of : ℕ → ℕ → Kind → ℕ → Row → Option Entry
@@ -171,11 +171,11 @@ registers_row_of core first row = do
 
 -- such an address, from a lowest one on
 unfoldable pub place_from : ℕ → ℕ → List ℕ → Option ℕ
-place_from bytes low text = place_of bytes text >>? λ addr. if nat_le low addr then Some addr else None
+place_from bytes low text = place_of bytes text >>= λ addr. if nat_le low addr then Some addr else None
 
 -- a word that isn't 0
 unfoldable pub some_word_of : List ℕ → Option ℕ
-some_word_of text = word_of text >>? λ n. if nat_le 1 n then Some n else None
+some_word_of text = word_of text >>= λ n. if nat_le 1 n then Some n else None
 
 -- a memory word that isn't 0, from a lowest address on
 unfoldable pub memory_row_of : ℕ → ℕ → Row → Option MemoryWord

@@ -4,11 +4,11 @@ use Rattle.std.specs.Prelude.{IfSome, MatchOption}
 use Rattle.std.proofs.lemmas.Option.{some_pair_parts}
 pub use Rattle.std.proofs.lemmas.Option.{same_Some as some_is}
 use Rattle.row_reader.specs.Rows.{Row}
-use Rattle.row_reader.specs.Fields.{◌>>?◌, with_rest, field_at, ended}
+use Rattle.row_reader.specs.Fields.{◌>>=◌, with_rest, field_at, ended}
 use Rattle.row_reader.proofs.PartLaws.{IsRow}
 
 -- the value of a first step that has one
-pub bind_some : {A B : Type 0} (r : Option A) (f : A → Option B) (y : B) → (r >>? f) ≡ Some y → (x : A) × (r ≡ Some x) × (f x ≡ Some y)
+pub bind_some : {A B : Type 0} (r : Option A) (f : A → Option B) (y : B) → (r >>= f) ≡ Some y → (x : A) × (r ≡ Some x) × (f x ≡ Some y)
 bind_some (Some x) f y e = (x, refl, e)
 bind_some None f y e = absurd cc
 
@@ -57,7 +57,7 @@ pub then_field : {X Z : Type 0} (Fits : X → Type 0) (spell : X → List ℕ) (
     (first : Z → X) (Known Rest : Z → Type 0) (line_more : Z → Row) (read_more : X → Row → Option Z)
     → IsField Fits spell one
     → ((x : X) → Fits x → IsRow (λ z. ((first z ≡ x) × Known z) × Rest z) line_more (read_more x))
-    → IsRow (λ z. Known z × (Fits (first z) × Rest z)) (λ z. spell (first z) ∷ line_more z) (λ row. field_at one row >>? λ p. read_more p.0 p.1)
+    → IsRow (λ z. Known z × (Fits (first z) × Rest z)) (λ z. spell (first z) ∷ line_more z) (λ row. field_at one row >>= λ p. read_more p.0 p.1)
 then_field Fits spell one first Known Rest line_more read_more law more = record {
   found = λ row z e.
       let b = bind_some (field_at one row) (λ p. read_more p.0 p.1) z e in
@@ -67,7 +67,7 @@ then_field Fits spell one first Known Rest line_more read_more law more = record
         f.1 ∙ ap (λ (r : Row). spell b.0.0 ∷ r) m.1 ∙ ap (λ x. spell x ∷ line_more z) (sym m.0.0.0),
       );
   again = λ z fits.
-      ap (λ o. with_rest o (line_more z) >>? λ p. read_more p.0 p.1) (law.again (first z) fits.1.0)
+      ap (λ o. with_rest o (line_more z) >>= λ p. read_more p.0 p.1) (law.again (first z) fits.1.0)
       ∙ (more (first z) fits.1.0).again z ((refl, fits.0), fits.1.1);
 }
 

@@ -16,7 +16,7 @@ use Rattle.hex.specs.declared.error.FromHexError.{FromHexError}
 use Rattle.hex.proofs.HexLemmas.{decode_of-ok, decode_sized-ok, decode_sized-twice, decode_sized-encode_lower, length-encode_with}
 use Rattle.kmp_base.specs.Text.{hex8}
 use Rattle.row_reader.specs.Numbers.{if_spelled, number_of, AreBytes, if_bytes, bytes_of, word_of, dash, word_or_dash, optional_word_of, exactly}
-use Rattle.row_reader.specs.Fields.{◌>>?◌}
+use Rattle.row_reader.specs.Fields.{◌>>=◌}
 use Rattle.row_reader.proofs.FieldLaws.{IsField, some_is, bind_some}
 
 pub same_text : (a b : List ℕ) → bytes_eq a b ≡ true → a ≡ b
@@ -179,12 +179,12 @@ exactly_field name = record { found = exactly_found name; again = λ x fits. exa
 -- ---- a value that passes a test
 
 pub tested_field : {X : Type 0} (Fits : X → Type 0) (spell : X → List ℕ) (one : List ℕ → Option X) (test : X → Bool)
-    → IsField Fits spell one → IsField (λ x. Fits x × (test x ≡ true)) spell (λ text. one text >>? λ x. cond (test x) (Some x) None)
+    → IsField Fits spell one → IsField (λ x. Fits x × (test x ≡ true)) spell (λ text. one text >>= λ x. cond (test x) (Some x) None)
 tested_field Fits spell one test law = record {
   found = λ text x e.
       let b = bind_some (one text) (λ y. cond (test y) (Some y) None) x e in
       let c = cond_some (test b.0) b.0 x b.2 in
       let f = law.found text b.0 b.1 in
       ((subst Fits c.1 f.0, ap test (sym c.1) ∙ c.0), f.1 ∙ ap spell c.1);
-  again = λ x h. ap (λ o. o >>? λ y. cond (test y) (Some y) None) (law.again x h.0) ∙ some_if (test x) x h.1;
+  again = λ x h. ap (λ o. o >>= λ y. cond (test y) (Some y) None) (law.again x h.0) ∙ some_if (test x) x h.1;
 }

@@ -4,10 +4,10 @@ use Rattle.std.specs.List.{slice_split}
 use Rattle.row_reader.specs.Rows.{Row, Rows, is_blank}
 
 -- one step and then another, which knows the value of the first; none where either has none
-infixl 10 ◌>>?◌
-abbrev pub ◌>>?◌ : {A B : Type 0} → Option A → (A → Option B) → Option B
-(Some x) >>? f = f x
-None >>? f = None
+infixl 10 ◌>>=◌
+abbrev pub ◌>>=◌ : {A B : Type 0} → Option A → (A → Option B) → Option B
+(Some x) >>= f = f x
+None >>= f = None
 
 -- what a function returned, seen by view, is what reading gives
 abbrev pub Finds : {X Y : Type 0} → (X → Y) → Option X → Option Y → Type 0
