@@ -7,7 +7,7 @@ use Rattle.std.proofs.lemmas.Slice.Eq.{bytes_eq-Decides}
 use Rattle.asm_parse.specs.declared.statement.Body.{Body}
 use Rattle.asm_parse.specs.declared.statement.Body.TheVariants.{Label}
 use Rattle.asm_parse.specs.declared.statement.Statement.{Statement}
-use Rattle.asm_parse.specs.Tables.{found_in}
+use Rattle.kmp_base.specs.Names.{named}
 use Rattle.asm_layout.specs.declared.place.Place.{Place}
 use Rattle.asm_layout.specs.Places.{place_behind, address_at}
 use Rattle.asm_layout.specs.Labels.{Addresses, label_at, labels_from, HoldsLabels}
@@ -44,16 +44,16 @@ either_first first false x y others apart = refl
 either_first first true x y others apart = rw (apart refl) refl
 
 -- A label behind others, among which it isn't, is found, and the others are found as before.
-pub found_behind : (known : Addresses) (name : List ℕ) (address : ℕ) (wanted : List ℕ) → found_in known name ≡ None
-    → found_in (known ++ (name, address) ∷ []) wanted ≡ cond (bytes_eq name wanted) (Some address) (found_in known wanted)
+pub found_behind : (known : Addresses) (name : List ℕ) (address : ℕ) (wanted : List ℕ) → named known name ≡ None
+    → named (known ++ (name, address) ∷ []) wanted ≡ cond (bytes_eq name wanted) (Some address) (named known wanted)
 found_behind [] name address wanted none = refl
 found_behind (entry ∷ entries) name address wanted none =
-    let parts = absent (bytes_eq entry.0 name) entry.1 (found_in entries name) none in
+    let parts = absent (bytes_eq entry.0 name) entry.1 (named entries name) none in
     let apart : bytes_eq name wanted ≡ true → bytes_eq entry.0 wanted ≡ false =
     λ same. ap (λ (text : List ℕ). bytes_eq entry.0 text) (sym ((bytes_eq-Decides name wanted).0 same)) ∙ parts.0 in
-    rw (found_behind entries name address wanted parts.1) (either_first (bytes_eq entry.0 wanted) (bytes_eq name wanted) entry.1 address (found_in entries wanted) apart)
+    rw (found_behind entries name address wanted parts.1) (either_first (bytes_eq entry.0 wanted) (bytes_eq name wanted) entry.1 address (named entries wanted) apart)
 
 -- a label that isn't among others stands behind them
 pub label_added : (known : Addresses) (body : Body) (name name' : List ℕ) (address address' : ℕ) → body ≡ Label name → name' ≡ name → address' ≡ address
-    → found_in known name' ≡ None → (twice_fault known body ≡ None) × (known ++ label_at address body ≡ known ++ (name', address') ∷ [])
+    → named known name' ≡ None → (twice_fault known body ≡ None) × (known ++ label_at address body ≡ known ++ (name', address') ∷ [])
 label_added known body name name' address address' is same at none = rw (is, ← same, ← at, none) (refl, refl)

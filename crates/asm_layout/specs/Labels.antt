@@ -7,7 +7,7 @@ use Rattle.std.specs.Ordering.{nat_cmp}
 use Rattle.asm_parse.specs.declared.statement.Body.{Body}
 use Rattle.asm_parse.specs.declared.statement.Body.TheVariants.{Label}
 use Rattle.asm_parse.specs.declared.statement.Statement.{Statement}
-use Rattle.asm_parse.specs.Tables.{found_in}
+use Rattle.kmp_base.specs.Names.{named}
 use Rattle.asm_layout.specs.Places.{address_at, place_behind, code_end}
 
 -- labels and their addresses
@@ -31,4 +31,4 @@ labels_of ss = labels_from (code_end ss) [] ss
 
 -- A map holds the labels: it gives each name the address that stands first for it, and no other name one.
 abbrev pub HoldsLabels : BTreeMap (Bor (List ℕ)) ℕ → Addresses → Type 0
-HoldsLabels map labels = (name : List ℕ) → get_by (λ key. slice_cmp nat_cmp name key.now) map ≡ found_in labels name
+HoldsLabels map labels = (name : List ℕ) → get_by (λ key. slice_cmp nat_cmp name key.now) map ≡ named labels name

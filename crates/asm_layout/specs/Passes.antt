@@ -11,7 +11,7 @@ use Rattle.asm_parse.specs.declared.statement.Body.TheVariants.{Label, DataAt, W
 use Rattle.asm_parse.specs.declared.statement.Statement.{Statement}
 use Rattle.asm_parse.specs.declared.statement.Value.{Value}
 use Rattle.asm_parse.specs.declared.statement.Value.TheVariants as values
-use Rattle.asm_parse.specs.Tables.{found_in}
+use Rattle.kmp_base.specs.Names.{named}
 use Rattle.asm_layout.specs.declared.place.Place.{Place}
 use Rattle.asm_layout.specs.Places.{code_size, data_size, code_behind, code_end, place_behind}
 use Rattle.asm_layout.specs.Labels.{Addresses, labels_from, labels_of, HoldsLabels}
@@ -40,7 +40,7 @@ code_pass ss = at_line 0 (fault_if (code_behind ss == 0) NoCode)
 
 -- a label that stands before
 abbrev pub twice_fault : Addresses → Body → Option AsmCause
-twice_fault before (Label name) = fault_if (is_some (found_in before name)) LabelTwice
+twice_fault before (Label name) = fault_if (is_some (named before name)) LabelTwice
 twice_fault before other = None
 
 abbrev pub twice_test : ℕ → List Statement → Statement → Option AsmCause
@@ -71,7 +71,7 @@ jump_reaches address = nat_lt address (2 ^ 28)
 
 -- what is wrong with a label: it stands nowhere, or its address does not serve
 abbrev pub label_fault : Addresses → (ℕ → Bool) → List ℕ → Option AsmCause
-label_fault labels serves name = elim (found_in labels name) [
+label_fault labels serves name = elim (named labels name) [
   | None ↦ Some LabelMissing
   | Some address ↦ fault_if (not (serves address)) Range
 ]

@@ -1,6 +1,6 @@
 //! The addresses of labels.
 ghost use Rattle.std.specs.Prelude.{◌≡◌, ◌≤◌, ◌^◌, ◌++◌, [], None, length, OnOk, IfOk, IfErr};
-ghost use Rattle.asm_parse.specs.Tables.{found_in};
+ghost use Rattle.kmp_base.specs.Names.{named};
 ghost use Rattle.asm_layout.specs.Places.{address_at};
 ghost use Rattle.asm_layout.specs.Labels.{Addresses, HoldsLabels, label_at, labels_from};
 ghost use Rattle.asm_layout.specs.Passes.{FailsBy, at_line, first_fault, twice_fault, twice_test};
@@ -16,7 +16,7 @@ pub type Labels<'a> = BTreeMap<&'a [u8], u64>;
 
 /// The address of a label, where it is one.
 pub fn address_of(labels: &Labels<'_>, name: &[u8]) -> Option<u64>
-    ensures address { (known : Addresses) → HoldsLabels labels.now known → result ≡ found_in known name.now }
+    ensures address { (known : Addresses) → HoldsLabels labels.now known → result ≡ named known name.now }
 {
     labels.get(name).copied()
 }

@@ -12,14 +12,14 @@ use Rattle.asm_parse.specs.declared.statement.Statement.{Statement}
 use Rattle.asm_parse.specs.declared.statement.Value.{Value}
 use Rattle.asm_parse.specs.declared.statement.Value.TheVariants as values
 use Rattle.asm_parse.specs.Statements.{upper_half, lower_half}
-use Rattle.asm_parse.specs.Tables.{found_in}
+use Rattle.kmp_base.specs.Names.{named}
 use Rattle.asm_layout.specs.Places.{code_behind, code_end}
 use Rattle.asm_layout.specs.Labels.{Addresses, labels_of}
 use Rattle.asm_layout.specs.Passes.{layout_fault}
 
 -- the address of a label, as a word
 abbrev pub address_of : Addresses → List ℕ → ℕ
-address_of labels name = unwrap_or (found_in labels name) 0 % 2 ^ 32
+address_of labels name = unwrap_or (named labels name) 0 % 2 ^ 32
 
 abbrev pub word_in : Addresses → Value → ℕ
 word_in labels (values.Number n) = n

@@ -11,7 +11,7 @@ use Rattle.mips_isa.specs.declared.ZeroOp.TheVariants.{Bltz, Bgez, Blez, Bgtz}
 use Rattle.asm_token.specs.declared.fault.AsmCause.{AsmCause}
 use Rattle.asm_token.specs.declared.token.Token.{Token}
 use Rattle.asm_token.specs.declared.token.Token.TheVariants as tokens
-use Rattle.asm_token.specs.Faults.{◌>>=◌}
+use Rattle.kmp_base.specs.Bind.{◌>>=◌}
 use Rattle.asm_token.specs.Numbers.{word_of}
 use Rattle.asm_parse.specs.declared.forms.Form.{Form}
 use Rattle.asm_parse.specs.declared.forms.Form.TheVariants as forms
@@ -30,7 +30,7 @@ use Rattle.asm_parse.specs.Lines.{labels_in, behind_labels, form_in, named_in}
 use Rattle.asm_parse.specs.Operands.{operand_in, with_register, with_operand, no_operands, operands_in}
 use Rattle.asm_parse.specs.Statements.{number_of, lower_half, branch, jump, bodies_of, more_words_in, words_in, statement_in}
 use Rattle.asm_parse.specs.Printing as printing
-use Rattle.asm_parse.specs.Printing.{shift_name, shift_by_name, alu_name, imm_name, branch_name, zero_name, jump_name, register, number, signed_of, signed_number, immediate, value_token, one, separated, named, branch_tokens, instr_tokens, body_tokens, branch_imm, IsWord, HasNumbers, body_stands, label_tokens}
+use Rattle.asm_parse.specs.Printing.{shift_name, shift_by_name, alu_name, imm_name, branch_name, zero_name, jump_name, register, number, signed_of, signed_number, immediate, value_token, one, separated, with_operands, branch_tokens, instr_tokens, body_tokens, branch_imm, IsWord, HasNumbers, body_stands, label_tokens}
 use Rattle.asm_parse.proofs.OperandsLemmas.{register_read, link_read, number_read, place_read, label_read, is_amount, is_unsigned, is_word, is_address, is_space, is_signed, signed_back, address_read, one_read, two_read, three_read}
 
 -- The forms of names.

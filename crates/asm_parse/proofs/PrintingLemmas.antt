@@ -24,7 +24,7 @@ use Rattle.asm_parse.specs.Forms.{signed, target, form_of, is_part}
 use Rattle.asm_parse.specs.Lines.{labels_in, behind_labels, named_in, line_of}
 use Rattle.asm_parse.specs.Operands.{operands_in}
 use Rattle.asm_parse.specs.Statements.{bodies_of, statement_in, part_moved, IsBranch, IsProperBody}
-use Rattle.asm_parse.specs.Printing.{shift_name, shift_by_name, alu_name, branch_name, zero_name, jump_name, number, signed_of, signed_number, value_token, named, one, branch_tokens, instr_tokens, body_tokens, branch_imm, IsWord, HasNumbers, body_stands, label_tokens}
+use Rattle.asm_parse.specs.Printing.{shift_name, shift_by_name, alu_name, branch_name, zero_name, jump_name, number, signed_of, signed_number, value_token, with_operands, one, branch_tokens, instr_tokens, body_tokens, branch_imm, IsWord, HasNumbers, body_stands, label_tokens}
 use Rattle.asm_parse.proofs.OperandsLemmas.{place_read, label_read, is_target, is_signed, signed_back}
 use Rattle.asm_parse.proofs.FormsLemmas.{Reads, behind_front, form_reads, shift_form, shift_by_form, alu_form, branch_form, zero_form, jump_form, shift_read, shift_by_read, alu_read, cas_read, signed_read, unsigned_read, lui_read, branch_read, zero_read, jump_read, jump_reg_read, jump_link_read, lw_read, sw_read, load_read, data_read, space_read, word_read, value_read}
 

@@ -2,7 +2,8 @@
 use Rattle.std.proofs.Common.{ℕ, Result, Ok, Err}
 use Rattle.std.specs.Prelude.{IfOk}
 use Rattle.asm_token.specs.declared.fault.AsmCause.{AsmCause}
-use Rattle.asm_token.specs.Faults.{◌>>=◌, at_line}
+use Rattle.kmp_base.specs.Bind.{◌>>=◌}
+use Rattle.asm_token.specs.Faults.{at_line}
 
 -- What holds of each thing that may be read next holds of the whole reading.
 pub then_holds : {A B E : Type 0} (read : Result A E) (next : A → Result B E) (P : B → Type 0) → ((x : A) → IfOk (next x) P) → IfOk (read >>= next) P

@@ -11,7 +11,8 @@ use Rattle.asm_token.specs.declared.fault.AsmCause.TheVariants.{UnknownName, Bad
 use Rattle.asm_token.specs.declared.token.Token.{Token}
 use Rattle.asm_token.specs.declared.token.Token.TheVariants as tokens
 use Rattle.asm_token.specs.Bytes.{is_blank, is_before_comment}
-use Rattle.asm_token.specs.Faults.{◌>>=◌, at_line}
+use Rattle.kmp_base.specs.Bind.{◌>>=◌}
+use Rattle.asm_token.specs.Faults.{at_line}
 use Rattle.asm_token.specs.Tokens.{token_at, tokens_from, tokens_of}
 use Rattle.asm_parse.specs.declared.forms.Form.{Form}
 use Rattle.asm_parse.specs.declared.forms.Form.TheVariants as forms

@@ -6,7 +6,8 @@ use Rattle.asm_token.specs.declared.fault.LineFault.{LineFault}
 use Rattle.asm_token.specs.declared.fault.LineFault.TheVariants as faults
 use Rattle.asm_token.specs.declared.token.Token.{Token}
 use Rattle.asm_token.specs.declared.token.Token.TheVariants as tokens
-use Rattle.asm_token.specs.Faults.{◌>>=◌, Fails}
+use Rattle.kmp_base.specs.Bind.{◌>>=◌}
+use Rattle.asm_token.specs.Faults.{Fails}
 use Rattle.asm_parse.specs.declared.statement.Body.{Body}
 use Rattle.asm_parse.specs.declared.statement.Body.TheVariants.{Word}
 use Rattle.asm_parse.specs.declared.statement.Value.{Value}

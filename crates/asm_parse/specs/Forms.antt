@@ -4,7 +4,7 @@ use Rattle.mips_isa.specs.declared.ShiftOp.TheVariants.{Sll, Srl, Sra}
 use Rattle.mips_isa.specs.declared.AluOp.TheVariants.{Add, Addu, Sub, Subu, And, Or, Xor, Nor, Slt, Sltu}
 use Rattle.mips_isa.specs.declared.ImmOp.TheVariants.{Addi, Addiu, Slti, Sltiu, Andi, Ori, Xori}
 use Rattle.mips_isa.specs.declared.ZeroOp.TheVariants.{Bltz, Bgez, Blez, Bgtz}
-use Rattle.asm_parse.specs.Tables.{found_in}
+use Rattle.kmp_base.specs.Names.{named}
 use Rattle.asm_parse.specs.declared.bounds.Bounds.{Bounds}
 use Rattle.asm_parse.specs.declared.forms.Form.{Form}
 use Rattle.asm_parse.specs.declared.forms.Form.TheVariants.{Shift, ShiftBy, Alu, Signed, Unsigned, Lui, BranchTwo, BranchZero, Jump, JumpReg, JumpLink, Lw, Sw, Cas, Halt, Nop, Move, Branch, Li, La, Text, Data, Word, Space, Globl}
@@ -70,7 +70,7 @@ statement_forms =
 
 -- the statement of a name
 unfoldable pub form_of : List ℕ → Option Form
-form_of name = found_in statement_forms name
+form_of name = named statement_forms name
 
 -- the amount of a shift
 abbrev pub amount : Bounds

@@ -6,5 +6,4 @@ pub mod Operands
 pub mod Printing
 pub mod Registers
 pub mod Statements
-pub mod Tables
 pub mod Worked

@@ -8,7 +8,8 @@ use Rattle.asm_token.specs.declared.fault.AsmCause.TheVariants.{UnknownName, Bad
 use Rattle.asm_token.specs.declared.token.Token.{Token}
 use Rattle.asm_token.specs.declared.token.Token.TheVariants as tokens
 use Rattle.asm_token.specs.Bytes.{is_one_of}
-use Rattle.asm_token.specs.Faults.{◌>>=◌, at_line}
+use Rattle.kmp_base.specs.Bind.{◌>>=◌}
+use Rattle.asm_token.specs.Faults.{at_line}
 use Rattle.asm_token.specs.Tokens.{tokens_of}
 use Rattle.asm_parse.specs.declared.forms.Form.{Form}
 use Rattle.asm_parse.specs.declared.statement.Body.{Body}

@@ -18,7 +18,7 @@ use Rattle.asm_parse.specs.declared.statement.Value.{Value}
 use Rattle.asm_parse.specs.Forms.{is_part}
 use Rattle.asm_parse.specs.Lines.{line_of}
 use Rattle.asm_parse.specs.Statements.{upper_half, lower_half}
-use Rattle.asm_parse.specs.Printing.{register, signed_number, value_token, one, named, label_tokens, IsWord}
+use Rattle.asm_parse.specs.Printing.{register, signed_number, value_token, one, with_operands, label_tokens, IsWord}
 
 pub data Macro : Type 0 where
   Nop : Macro
@@ -46,16 +46,16 @@ abbrev pub values_tokens : List Value → List (List Token)
 values_tokens values = map (λ value. one (value_token value)) values
 
 abbrev pub macro_tokens : Macro → List Token
-macro_tokens Nop = named (codes "nop") []
-macro_tokens (Move rd rs) = named (codes "move") (one (register rd) ∷ one (register rs) ∷ [])
-macro_tokens (Branch label) = named (codes "b") (one (tokens.Name label) ∷ [])
-macro_tokens (BranchBy imm) = named (codes "b") (one (signed_number imm) ∷ [])
-macro_tokens (Li rt n) = named (codes "li") (one (register rt) ∷ one (tokens.Number n) ∷ [])
-macro_tokens (Lw rt rs) = named (codes "lw") (one (register rt) ∷ bare_address rs ∷ [])
-macro_tokens (Sw rt rs) = named (codes "sw") (one (register rt) ∷ bare_address rs ∷ [])
-macro_tokens (JumpLink rs) = named (codes "jalr") (one (register rs) ∷ [])
-macro_tokens (Words value values) = named (codes ".word") (values_tokens (value ∷ values))
-macro_tokens (Globl label) = named (codes ".globl") (one (tokens.Name label) ∷ [])
+macro_tokens Nop = with_operands (codes "nop") []
+macro_tokens (Move rd rs) = with_operands (codes "move") (one (register rd) ∷ one (register rs) ∷ [])
+macro_tokens (Branch label) = with_operands (codes "b") (one (tokens.Name label) ∷ [])
+macro_tokens (BranchBy imm) = with_operands (codes "b") (one (signed_number imm) ∷ [])
+macro_tokens (Li rt n) = with_operands (codes "li") (one (register rt) ∷ one (tokens.Number n) ∷ [])
+macro_tokens (Lw rt rs) = with_operands (codes "lw") (one (register rt) ∷ bare_address rs ∷ [])
+macro_tokens (Sw rt rs) = with_operands (codes "sw") (one (register rt) ∷ bare_address rs ∷ [])
+macro_tokens (JumpLink rs) = with_operands (codes "jalr") (one (register rs) ∷ [])
+macro_tokens (Words value values) = with_operands (codes ".word") (values_tokens (value ∷ values))
+macro_tokens (Globl label) = with_operands (codes ".globl") (one (tokens.Name label) ∷ [])
 
 -- What a macro stands for.
 abbrev pub macro_bodies : Macro → List Body

@@ -6,7 +6,7 @@ use Rattle.asm_token.specs.declared.fault.AsmCause.TheVariants.{UnknownName, Bad
 use Rattle.asm_token.specs.declared.token.Token.{Token}
 use Rattle.asm_token.specs.declared.token.Token.TheVariants as tokens
 use Rattle.asm_token.specs.declared.number.Number.{Number}
-use Rattle.asm_token.specs.Faults.{◌>>=◌}
+use Rattle.kmp_base.specs.Bind.{◌>>=◌}
 use Rattle.asm_token.specs.Numbers.{word_of}
 use Rattle.asm_parse.specs.declared.bounds.Bounds.{Bounds}
 use Rattle.asm_parse.specs.declared.forms.Slot.{Slot}

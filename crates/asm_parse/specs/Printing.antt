@@ -112,44 +112,44 @@ abbrev pub one : Token → List Token
 one t = t ∷ []
 
 -- a name, and operands behind it
-abbrev pub named : List ℕ → List (List Token) → List Token
-named name operands = tokens.Name name ∷ separated operands
+abbrev pub with_operands : List ℕ → List (List Token) → List Token
+with_operands name operands = tokens.Name name ∷ separated operands
 
 -- Statements.
 
 abbrev pub branch_tokens : Instr → Token → List Token
-branch_tokens (instrs.BranchTwo differ rs rt imm) place = named (branch_name differ) (one (register rs) ∷ one (register rt) ∷ one place ∷ [])
-branch_tokens (instrs.BranchZero op rs imm) place = named (zero_name op) (one (register rs) ∷ one place ∷ [])
+branch_tokens (instrs.BranchTwo differ rs rt imm) place = with_operands (branch_name differ) (one (register rs) ∷ one (register rt) ∷ one place ∷ [])
+branch_tokens (instrs.BranchZero op rs imm) place = with_operands (zero_name op) (one (register rs) ∷ one place ∷ [])
 branch_tokens other place = []
 
 abbrev pub instr_tokens : Instr → List Token
-instr_tokens (instrs.Shift op rd rt sa) = named (shift_name op) (one (register rd) ∷ one (register rt) ∷ one (number sa) ∷ [])
-instr_tokens (instrs.ShiftBy op rd rt rs) = named (shift_by_name op) (one (register rd) ∷ one (register rt) ∷ one (register rs) ∷ [])
-instr_tokens (instrs.Alu op rd rs rt) = named (alu_name op) (one (register rd) ∷ one (register rs) ∷ one (register rt) ∷ [])
-instr_tokens (instrs.AluImm op rt rs imm) = named (imm_name op) (one (register rt) ∷ one (register rs) ∷ one (immediate op imm) ∷ [])
-instr_tokens (instrs.Lui rt imm) = named (codes "lui") (one (register rt) ∷ one (number imm) ∷ [])
+instr_tokens (instrs.Shift op rd rt sa) = with_operands (shift_name op) (one (register rd) ∷ one (register rt) ∷ one (number sa) ∷ [])
+instr_tokens (instrs.ShiftBy op rd rt rs) = with_operands (shift_by_name op) (one (register rd) ∷ one (register rt) ∷ one (register rs) ∷ [])
+instr_tokens (instrs.Alu op rd rs rt) = with_operands (alu_name op) (one (register rd) ∷ one (register rs) ∷ one (register rt) ∷ [])
+instr_tokens (instrs.AluImm op rt rs imm) = with_operands (imm_name op) (one (register rt) ∷ one (register rs) ∷ one (immediate op imm) ∷ [])
+instr_tokens (instrs.Lui rt imm) = with_operands (codes "lui") (one (register rt) ∷ one (number imm) ∷ [])
 instr_tokens (instrs.BranchTwo differ rs rt imm) = branch_tokens (instrs.BranchTwo differ rs rt imm) (signed_number imm)
 instr_tokens (instrs.BranchZero op rs imm) = branch_tokens (instrs.BranchZero op rs imm) (signed_number imm)
-instr_tokens (instrs.Jump link index) = named (jump_name link) (one (number (4 * index)) ∷ [])
-instr_tokens (instrs.JumpReg rs) = named (codes "jr") (one (register rs) ∷ [])
-instr_tokens (instrs.JumpLink rd rs) = named (codes "jalr") (one (register rd) ∷ one (register rs) ∷ [])
-instr_tokens (instrs.Lw rt rs imm) = named (codes "lw") (one (register rt) ∷ address imm rs ∷ [])
-instr_tokens (instrs.Sw rt rs imm) = named (codes "sw") (one (register rt) ∷ address imm rs ∷ [])
-instr_tokens (instrs.Cas rd rs rt) = named (codes "cas") (one (register rd) ∷ one (register rs) ∷ one (register rt) ∷ [])
-instr_tokens instrs.Halt = named (codes "halt") []
+instr_tokens (instrs.Jump link index) = with_operands (jump_name link) (one (number (4 * index)) ∷ [])
+instr_tokens (instrs.JumpReg rs) = with_operands (codes "jr") (one (register rs) ∷ [])
+instr_tokens (instrs.JumpLink rd rs) = with_operands (codes "jalr") (one (register rd) ∷ one (register rs) ∷ [])
+instr_tokens (instrs.Lw rt rs imm) = with_operands (codes "lw") (one (register rt) ∷ address imm rs ∷ [])
+instr_tokens (instrs.Sw rt rs imm) = with_operands (codes "sw") (one (register rt) ∷ address imm rs ∷ [])
+instr_tokens (instrs.Cas rd rs rt) = with_operands (codes "cas") (one (register rd) ∷ one (register rs) ∷ one (register rt) ∷ [])
+instr_tokens instrs.Halt = with_operands (codes "halt") []
 
 -- The tokens of a statement.
 abbrev pub body_tokens : Body → List Token
 body_tokens (Label label) = tokens.Name label ∷ tokens.Colon ∷ []
-body_tokens Text = named (codes ".text") []
-body_tokens Data = named (codes ".data") []
-body_tokens (DataAt start) = named (codes ".data") (one (number start) ∷ [])
-body_tokens (Word value) = named (codes ".word") (one (value_token value) ∷ [])
-body_tokens (Space bytes) = named (codes ".space") (one (number bytes) ∷ [])
+body_tokens Text = with_operands (codes ".text") []
+body_tokens Data = with_operands (codes ".data") []
+body_tokens (DataAt start) = with_operands (codes ".data") (one (number start) ∷ [])
+body_tokens (Word value) = with_operands (codes ".word") (one (value_token value) ∷ [])
+body_tokens (Space bytes) = with_operands (codes ".space") (one (number bytes) ∷ [])
 body_tokens (Plain instr) = instr_tokens instr
 body_tokens (BranchTo instr label) = branch_tokens instr (tokens.Name label)
-body_tokens (JumpTo link label) = named (jump_name link) (one (tokens.Name label) ∷ [])
-body_tokens (Load rt value) = named (codes "la") (one (register rt) ∷ one (value_token value) ∷ [])
+body_tokens (JumpTo link label) = with_operands (jump_name link) (one (tokens.Name label) ∷ [])
+body_tokens (Load rt value) = with_operands (codes "la") (one (register rt) ∷ one (value_token value) ∷ [])
 
 -- the immediate of a branch
 abbrev pub branch_imm : Instr → ℕ

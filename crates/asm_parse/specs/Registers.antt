@@ -1,6 +1,6 @@
 -- The names of the registers, as MIPS assemblers write them.
 use Rattle.std.specs.Prelude.{ℕ, List, [], ◌∷◌, Option, codes}
-use Rattle.asm_parse.specs.Tables.{found_in}
+use Rattle.kmp_base.specs.Names.{named}
 
 -- the numbers, and the names by what calls use each register for
 abbrev pub register_texts : List (List ℕ × ℕ)
@@ -24,4 +24,4 @@ register_texts =
 
 -- the register that stands behind `$`
 unfoldable pub register_of : List ℕ → Option ℕ
-register_of name = found_in register_texts name
+register_of name = named register_texts name

@@ -4,7 +4,7 @@ ghost use Rattle.asm_parse.specs.Forms.{form_of};
 
 use crate::bounds::{AMOUNT, Bounds, SIGNED, TARGET, UNSIGNED, WORD};
 use crate::statement::Part;
-use crate::table::find_in;
+use kmp_base::named;
 use mips_isa::{AluOp, ImmOp, ShiftOp, ZeroOp};
 
 /// What follows a statement's name, and what the statement is.
@@ -208,5 +208,5 @@ const FORMS: [(&str, Form); 48] = [
 pub fn form_of(name: &[u8]) -> Option<Form>
     ensures form { result ≡ form_of name.now }
 {
-    find_in(&FORMS, name)
+    named(&FORMS, name)
 }

@@ -10,7 +10,6 @@ mod operands;
 mod registers;
 mod source;
 mod statement;
-mod table;
 
 pub use asm_token::{AsmCause, AsmFault};
 pub use source::parse;

@@ -6,7 +6,8 @@ use Rattle.asm_token.specs.declared.fault.LineFault.{LineFault}
 use Rattle.asm_token.specs.declared.fault.LineFault.TheVariants as faults
 use Rattle.asm_token.specs.declared.token.Token.{Token}
 use Rattle.asm_token.specs.Bytes.{is_blank}
-use Rattle.asm_token.specs.Faults.{◌>>=◌, Fails}
+use Rattle.kmp_base.specs.Bind.{◌>>=◌}
+use Rattle.asm_token.specs.Faults.{Fails}
 use Rattle.asm_token.specs.Tokens.{token_at, tokens_from}
 
 -- what was read before, and what is still read

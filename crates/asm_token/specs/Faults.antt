@@ -6,12 +6,6 @@ use Rattle.asm_token.specs.declared.fault.AsmFault.TheVariants as errors
 use Rattle.asm_token.specs.declared.fault.LineFault.{LineFault}
 use Rattle.asm_token.specs.declared.fault.LineFault.TheVariants as faults
 
-infixl 10 ◌>>=◌
--- the first fault answers
-abbrev pub ◌>>=◌ : {A B E : Type 0} → Result A E → (A → Result B E) → Result B E
-(Ok x) >>= f = f x
-(Err e) >>= f = Err e
-
 -- what is wrong with a line, and the line's number
 abbrev pub at_line : {A : Type 0} → ℕ → Result A AsmCause → Result A (AsmCause × ℕ)
 at_line line (Ok x) = Ok x

@@ -8,7 +8,7 @@ use Rattle.asm_token.specs.declared.fault.AsmCause.TheVariants.{BadByte, Range}
 use Rattle.asm_token.specs.declared.token.Token.{Token}
 use Rattle.asm_token.specs.declared.token.Token.TheVariants as tokens
 use Rattle.asm_token.specs.Bytes.{is_one_of, is_blank, begins_name, is_name_byte, cuts_number, is_before_comment}
-use Rattle.asm_token.specs.Faults.{◌>>=◌}
+use Rattle.kmp_base.specs.Bind.{◌>>=◌}
 
 -- A number needs a digit, and some bytes may not stand behind its last one.
 abbrev pub is_cut_wrongly : List ℕ → List ℕ → Bool

@@ -16,7 +16,7 @@ use Rattle.kmp_words.specs.declared.input.Input.TheVariants as inputs
 use Rattle.kmp_words.specs.declared.options.Options.{Options}
 use Rattle.kmp_words.specs.declared.options.OptionName.{OptionName}
 use Rattle.kmp_words.specs.declared.options.OptionName.TheVariants as names
-use Rattle.asm_parse.specs.Tables.{found_in}
+use Rattle.kmp_base.specs.Names.{named}
 use Rattle.kmp_words.specs.declared.fault.WordFault.{WordFault}
 use Rattle.kmp_words.specs.declared.fault.WordCause.TheVariants.{UnknownOption, OptionTwice, BadValue}
 use Rattle.kmp_base.specs.Bind.{◌>>=◌}
@@ -83,7 +83,7 @@ puts_of put (Some x) more is = record { it = x; is = refl; puts = cc }
 
 with_counts : (options more : Options) (name : OptionName) (word : ℕ) (value : Option (List ℕ)) → stands_in options name ≡ false → with_option options name word value ≡ Some more → count_of more ≡ count_of options + 1
 with_counts options more names.Machine word (Some text) once is =
-    let p = puts_of (λ kind. record options { machine = Some kind }) (found_in machine_names text) more is in
+    let p = puts_of (λ kind. record options { machine = Some kind }) (named machine_names text) more is in
     let none = none_len options.machine once in rw p.puts (omega (arith, none))
 with_counts options more names.Cores word (Some text) once is =
     let p = puts_of (λ cores. record options { cores = Some cores }) (number_within 1 8 text) more is in
@@ -92,7 +92,7 @@ with_counts options more names.Budget word (Some text) once is =
     let p = puts_of (λ budget. record options { budget = Some budget }) (number_within 1 100000 text) more is in
     let none = none_len options.budget once in rw p.puts (omega (arith, none))
 with_counts options more names.Turns word (Some text) once is =
-    let p = puts_of (λ order. record options { turns = Some order }) (found_in turns_names text) more is in
+    let p = puts_of (λ order. record options { turns = Some order }) (named turns_names text) more is in
     let none = none_len options.turns once in rw p.puts (omega (arith, none))
 with_counts options more names.Memory word (Some text) once is =
     let p = puts_of (λ lines. record options { memory = Some (lines, word) }) (option_and_then lines_of (number_in text)) more is in
@@ -119,15 +119,15 @@ valued word value options more name once (Some all) puts is = record { name = na
 
 adds : (command : Command) (word : ℕ) (text : List ℕ) (options more : Options) → option_in command word text options ≡ Ok more → Adds word (value_in text) options more
 unfolding option_in
-adds command word text options more is = named (found_in (options_of command) (name_in text)) is
+adds command word text options more is = by_option (named (options_of command) (name_in text)) is
   where
     judged : (name : OptionName) (twice : Bool) → stands_in options name ≡ twice → (fault_where twice (at_word OptionTwice word) >>= λ _. ok_or (with_option options name word (value_in text)) (at_word BadValue word)) ≡ Ok more → Adds word (value_in text) options more
     judged name true twice is = absurd cc
     judged name false once is = valued word (value_in text) options more name once (with_option options name word (value_in text)) refl is
 
-    named : (found : Option OptionName) → (ok_or found (at_word UnknownOption word) >>= λ name. fault_where (stands_in options name) (at_word OptionTwice word) >>= λ _. ok_or (with_option options name word (value_in text)) (at_word BadValue word)) ≡ Ok more → Adds word (value_in text) options more
-    named None is = absurd cc
-    named (Some name) is = judged name (stands_in options name) refl is
+    by_option : (found : Option OptionName) → (ok_or found (at_word UnknownOption word) >>= λ name. fault_where (stands_in options name) (at_word OptionTwice word) >>= λ _. ok_or (with_option options name word (value_in text)) (at_word BadValue word)) ≡ Ok more → Adds word (value_in text) options more
+    by_option None is = absurd cc
+    by_option (Some name) is = judged name (stands_in options name) refl is
 
 -- each word adds an option
 pub counts : (command : Command) (word : ℕ) (text : List ℕ) (options more : Options) → option_in command word text options ≡ Ok more → count_of more ≡ count_of options + 1
@@ -159,7 +159,7 @@ one_value false value other is = absurd cc
 
 with_proper : (options more : Options) (name : OptionName) (word : ℕ) (value : Option (List ℕ)) → with_option options name word value ≡ Some more → AreProper options → AreProper more
 with_proper options more names.Machine word (Some text) is before =
-    let p = puts_of (λ kind. record options { machine = Some kind }) (found_in machine_names text) more is in
+    let p = puts_of (λ kind. record options { machine = Some kind }) (named machine_names text) more is in
     rw p.puts (record { machine_is = one_value _ machines.Plain p.it p.is; cores_are = before.cores_are; budget_is = before.budget_is; turns_are = before.turns_are; memory_is = before.memory_is })
 with_proper options more names.Cores word (Some text) is before =
     let p = puts_of (λ cores. record options { cores = Some cores }) (number_within 1 8 text) more is in
@@ -168,7 +168,7 @@ with_proper options more names.Budget word (Some text) is before =
     let p = puts_of (λ budget. record options { budget = Some budget }) (number_within 1 100000 text) more is in
     rw p.puts (record { machine_is = before.machine_is; cores_are = before.cores_are; budget_is = within_bounds 1 100000 (number_in text) p.it p.is; turns_are = before.turns_are; memory_is = before.memory_is })
 with_proper options more names.Turns word (Some text) is before =
-    let p = puts_of (λ order. record options { turns = Some order }) (found_in turns_names text) more is in
+    let p = puts_of (λ order. record options { turns = Some order }) (named turns_names text) more is in
     rw p.puts (record { machine_is = before.machine_is; cores_are = before.cores_are; budget_is = before.budget_is; turns_are = one_value _ turns.Round p.it p.is; memory_is = before.memory_is })
 with_proper options more names.Memory word (Some text) is before =
     let p = puts_of (λ lines. record options { memory = Some (lines, word) }) (option_and_then lines_of (number_in text)) more is in

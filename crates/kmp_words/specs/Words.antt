@@ -12,7 +12,7 @@ use Rattle.kmp_base.specs.declared.setup.MachineKind.TheVariants as machines
 use Rattle.kmp_base.specs.declared.setup.Policy.TheVariants as policies
 use Rattle.kmp_base.specs.declared.setup.Turns.{Turns}
 use Rattle.kmp_base.specs.declared.setup.Turns.TheVariants as turns
-use Rattle.asm_parse.specs.Tables.{found_in}
+use Rattle.kmp_base.specs.Names.{named}
 use Rattle.kmp_words.specs.declared.order.Order.{Order}
 use Rattle.kmp_words.specs.declared.order.Order.TheVariants as orders
 use Rattle.kmp_base.specs.Limits.{IsWithinLimits}
@@ -93,13 +93,13 @@ stands_in options names.Image = is_some options.image
 -- Options with one more, which stands at a word and has a value or none; None where its value is a bad one.
 abbrev pub with_option : Options → OptionName → ℕ → Option (List ℕ) → Option Options
 with_option options names.Machine word (Some text) =
-    option_map (λ machine. record options { machine = Some machine }) (found_in machine_names text)
+    option_map (λ machine. record options { machine = Some machine }) (named machine_names text)
 with_option options names.Cores word (Some text) =
     option_map (λ cores. record options { cores = Some cores }) (number_within 1 8 text)
 with_option options names.Budget word (Some text) =
     option_map (λ budget. record options { budget = Some budget }) (number_within 1 100000 text)
 with_option options names.Turns word (Some text) =
-    option_map (λ turns. record options { turns = Some turns }) (found_in turns_names text)
+    option_map (λ turns. record options { turns = Some turns }) (named turns_names text)
 with_option options names.Memory word (Some text) =
     option_map (λ lines. record options { memory = Some (lines, word) }) (option_and_then lines_of (number_in text))
 with_option options names.Image word None = Some (record options { image = Some word })
@@ -116,7 +116,7 @@ fault_where wrong fault = if wrong then Err fault else Ok tt
 -- The option in a word, put with those before it: its name, that it stands once, and its value are judged in this order.
 unfoldable pub option_in : Command → ℕ → List ℕ → Options → Result Options WordFault
 option_in command word text options = do
-  name ← ok_or (found_in (options_of command) (name_in text)) (at_word UnknownOption word)
+  name ← ok_or (named (options_of command) (name_in text)) (at_word UnknownOption word)
   _ ← fault_where (stands_in options name) (at_word OptionTwice word)
   ok_or (with_option options name word (value_in text)) (at_word BadValue word)
 
@@ -168,7 +168,7 @@ together options = elim (excluded_at options) [
 unfoldable pub words_meaning : List (List ℕ) → Result Order WordFault
 words_meaning [] = Err (at_word NoCommand 1)
 words_meaning (first ∷ texts) = do
-  command ← ok_or (found_in command_names first) (at_word UnknownCommand 1)
+  command ← ok_or (named command_names first) (at_word UnknownCommand 1)
   options ← options_from command 2 no_options texts
   allowed ← together options
   Ok (order_of command allowed)

@@ -1,6 +1,6 @@
 //! Commands and their options.
 ghost use Rattle.std.specs.Prelude.{◌≡◌, option_and_then, option_copied};
-ghost use Rattle.asm_parse.specs.Tables.{found_in};
+ghost use Rattle.kmp_base.specs.Names.{named};
 ghost use Rattle.kmp_words.specs.Words.{command_names, options_of, number_in, lines_of, number_within, machine_names, turns_names, stands_in, with_option, excluded_at, memory_lines, setup_of};
 
 use kmp_base::{MOST_BUDGET, MOST_CORES, MachineKind, Policy, Setup, Turns, decimal_of, named};
@@ -46,7 +46,7 @@ const MEMORY_LINES: u32 = 8192;
 
 impl Command {
     pub fn named(name: &str) -> Option<Command>
-        ensures value { result ≡ found_in command_names name.now }
+        ensures value { result ≡ named command_names name.now }
     {
         match name {
             "run" => Some(Command::Run),
@@ -58,7 +58,7 @@ impl Command {
 
     /// The option of the command that has a name.
     pub fn option(self, name: &str) -> Option<OptionName>
-        ensures value { result ≡ found_in (options_of self) name.now }
+        ensures value { result ≡ named (options_of self) name.now }
     {
         match self {
             Command::Run => run_option(name),
@@ -69,7 +69,7 @@ impl Command {
 }
 
 fn run_option(name: &str) -> Option<OptionName>
-    ensures value { result ≡ found_in (options_of Command.Run) name.now }
+    ensures value { result ≡ named (options_of Command.Run) name.now }
 {
     match name {
         "--machine" => Some(OptionName::Machine),
@@ -83,7 +83,7 @@ fn run_option(name: &str) -> Option<OptionName>
 }
 
 fn asm_option(name: &str) -> Option<OptionName>
-    ensures value { result ≡ found_in (options_of Command.Asm) name.now }
+    ensures value { result ≡ named (options_of Command.Asm) name.now }
 {
     match name {
         "--memory" => Some(OptionName::Memory),
@@ -93,7 +93,7 @@ fn asm_option(name: &str) -> Option<OptionName>
 
 /// The kind of machine that has a name.
 fn machine_named(name: &str) -> Option<MachineKind>
-    ensures value { result ≡ found_in machine_names name.now }
+    ensures value { result ≡ named machine_names name.now }
 {
     let machines = [MachineKind::Plain];
     named(
@@ -104,7 +104,7 @@ fn machine_named(name: &str) -> Option<MachineKind>
 
 /// The turns that have a name.
 fn turns_named(name: &str) -> Option<Turns>
-    ensures value { result ≡ found_in turns_names name.now }
+    ensures value { result ≡ named turns_names name.now }
 {
     let turns = [Turns::Round];
     named(&turns.map(|turns| (turns.name(), turns)), name.as_bytes())
