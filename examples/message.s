@@ -3,7 +3,8 @@
         la    $t0, message
         la    $t1, flag
         bne   $a0, $zero, receive
-        li    $t2, 42                   # its first word stands in the delay slot
+        nop                             # delay slot: li is two words, and only the first would stand there
+        li    $t2, 42
         sw    $t2, 0($t0)
         li    $t3, 1
         sw    $t3, 0($t1)

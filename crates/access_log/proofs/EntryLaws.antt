@@ -39,16 +39,21 @@ same_make : (a b : Entry) → a.core ≡ b.core → a.nth ≡ b.nth → a.kind �
 same_make a b core nth kind addr old new = cc
 
 -- entries with the same fields are one
-pub same_fields : (a b : Entry) → a.core ≡ b.core → a.nth ≡ b.nth → a.kind ≡ b.kind → a.addr ≡ b.addr → a.old ≡ b.old → a.new ≡ b.new → a ≡ b
+pub same_fields : (a b : Entry) → a.core ≡ b.core → a.nth ≡ b.nth → a.kind ≡ b.kind → a.addr ≡ b.addr → a.old ≡ b.old → a.new ≡ b.new
+    → a ≡ b
 unfolding make
 same_fields a b core nth kind addr old new = same_make a b core nth kind addr old new
 
 pub is_same-true : (a b : Entry) → is_same a b ≡ true → a ≡ b
 unfolding is_same
 is_same-true a b h =
-    let one = and_parts (a.core == b.core) ((a.nth == b.nth) && ((kind_number a.kind == kind_number b.kind) && ((a.addr == b.addr) && ((a.old == b.old) && is_same_word a.new b.new)))) h in
-    let two = and_parts (a.nth == b.nth) ((kind_number a.kind == kind_number b.kind) && ((a.addr == b.addr) && ((a.old == b.old) && is_same_word a.new b.new))) one.1 in
-    let three = and_parts (kind_number a.kind == kind_number b.kind) ((a.addr == b.addr) && ((a.old == b.old) && is_same_word a.new b.new)) two.1 in
+    let one = and_parts (a.core == b.core)
+    ((a.nth == b.nth) && ((kind_number a.kind == kind_number b.kind)
+    && ((a.addr == b.addr) && ((a.old == b.old) && is_same_word a.new b.new)))) h in
+    let two = and_parts (a.nth == b.nth)
+    ((kind_number a.kind == kind_number b.kind) && ((a.addr == b.addr) && ((a.old == b.old) && is_same_word a.new b.new))) one.1 in
+    let three = and_parts (kind_number a.kind == kind_number b.kind) ((a.addr == b.addr) && ((a.old == b.old) && is_same_word a.new b.new))
+    two.1 in
     let four = and_parts (a.addr == b.addr) ((a.old == b.old) && is_same_word a.new b.new) three.1 in
     let five = and_parts (a.old == b.old) (is_same_word a.new b.new) four.1 in
     same_fields a b (eqb-true a.core b.core one.0) (eqb-true a.nth b.nth two.0)
@@ -58,4 +63,11 @@ is_same-true a b h =
 pub is_same-same : (a : Entry) → is_same a a ≡ true
 unfolding is_same
 is_same-same a =
-    rw (eq-eqb a.core a.core refl, eq-eqb a.nth a.nth refl, eq-eqb (kind_number a.kind) (kind_number a.kind) refl, eq-eqb a.addr a.addr refl, eq-eqb a.old a.old refl, is_same_word-same a.new) refl
+    rw (
+      eq-eqb a.core a.core refl,
+      eq-eqb a.nth a.nth refl,
+      eq-eqb (kind_number a.kind) (kind_number a.kind) refl,
+      eq-eqb a.addr a.addr refl,
+      eq-eqb a.old a.old refl,
+      is_same_word-same a.new,
+    ) refl

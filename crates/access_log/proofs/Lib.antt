@@ -6,6 +6,6 @@ pub mod ReplayLaws
 pub mod ItemLaws
 pub mod AloneLaws
 pub mod SplitLaws
-pub mod PlaceLaws
+pub mod IndexLaws
 pub mod RequestLaws
 pub mod StampLaws

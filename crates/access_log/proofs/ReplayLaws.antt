@@ -1,9 +1,9 @@
 -- Laws of catching up and of replay.
 use Rattle.std.proofs.Common.{◌≡◌, ℕ, zero, suc, ◌+◌, ◌-◌, ◌≤◌, ◌<◌, List, [], ◌∷◌, ◌++◌, arith, refl, sym, ◌∙◌, zero-add}
-use Rattle.std.specs.Prelude.{Bool, true, false, cond, nat_le, Option, Some, None}
+use Rattle.std.specs.Prelude.{nat_le, Option, Some, None}
 use Rattle.std.specs.Option.{option_and_then, option_map}
-use Rattle.std.proofs.lemmas.Option.{none-some, same_Some}
 use Rattle.std.proofs.lemmas.Bool.{leb-true, le-leb, lt-leb}
+use Rattle.std_laws.proofs.OptionLaws.{option_and_then-Some, option_and_then-assoc, option_and_then-same, option_map_parts, cond_some_parts}
 use Rattle.mips_isa.specs.declared.CoreState.{CoreState}
 use Rattle.mips_isa.specs.Steps.{next_of}
 use Rattle.access_log.specs.declared.Core.{Core}
@@ -14,32 +14,6 @@ use Rattle.access_log.specs.Replay.{FlatMachine, quiet, quiet_steps, caught_up, 
 abbrev at : ℕ → CoreState → Core
 at n state = record { state = state; executed = n }
 
-pub and_then-some : {A : Type 0} (o : Option A) → option_and_then Some o ≡ o
-and_then-some None = refl
-and_then-some (Some x) = refl
-
-pub and_then_parts : {A B : Type 0} (f : A → Option B) (o : Option A) (y : B) → option_and_then f o ≡ Some y → (x : A) × (o ≡ Some x) × (f x ≡ Some y)
-and_then_parts f None y h = absurd (none-some y h)
-and_then_parts f (Some x) y h = (x, refl, h)
-
--- one after another
-pub and_then-assoc : {A B C : Type 0} (f : A → Option B) (g : B → Option C) (o : Option A)
-    → option_and_then g (option_and_then f o) ≡ option_and_then (λ x. option_and_then g (f x)) o
-and_then-assoc f g None = refl
-and_then-assoc f g (Some x) = refl
-
-pub and_then-same : {A B : Type 0} (f g : A → Option B) → ((x : A) → f x ≡ g x) → (o : Option A) → option_and_then f o ≡ option_and_then g o
-and_then-same f g same None = refl
-and_then-same f g same (Some x) = same x
-
-pub map-some : {A B : Type 0} (f : A → B) (o : Option A) (y : B) → option_map f o ≡ Some y → (x : A) × (o ≡ Some x) × (f x ≡ y)
-map-some f None y h = absurd (none-some y h)
-map-some f (Some x) y h = (x, refl, same_Some (f x) y h)
-
-pub where_true : {A : Type 0} (b : Bool) (o : Option A) (y : A) → cond b o None ≡ Some y → (b ≡ true) × (o ≡ Some y)
-where_true true o y h = (refl, h)
-where_true false o y h = absurd (none-some y h)
-
 -- m quiet steps and then n are m + n
 pub quiet_steps-add : (code : List ℕ) (bytes m n : ℕ) (state : CoreState)
     → quiet_steps code bytes (m + n) state ≡ option_and_then (quiet_steps code bytes n) (quiet_steps code bytes m state)
@@ -49,8 +23,9 @@ quiet_steps-add code bytes (suc m) n state =
     let split : suc m + n ≡ suc (m + n) = omega arith in
     let next : Option CoreState = quiet (next_of code bytes state) in
     rw split
-    (and_then-same (quiet_steps code bytes (m + n)) (λ s. option_and_then (quiet_steps code bytes n) (quiet_steps code bytes m s)) (λ s. quiet_steps-add code bytes m n s) next
-    ∙ sym (and_then-assoc (quiet_steps code bytes m) (quiet_steps code bytes n) next))
+    (option_and_then-same (quiet_steps code bytes (m + n)) (λ s. option_and_then (quiet_steps code bytes n) (quiet_steps code bytes m s))
+    (λ s. quiet_steps-add code bytes m n s) next
+    ∙ sym (option_and_then-assoc (quiet_steps code bytes m) (quiet_steps code bytes n) next))
 
 -- what it means that a core has caught up
 pub record CaughtUp (code : List ℕ) (bytes n : ℕ) (core new : Core) : Type 0 where
@@ -58,11 +33,13 @@ pub record CaughtUp (code : List ℕ) (bytes n : ℕ) (core new : Core) : Type 0
   pub steps : quiet_steps code bytes (n - core.executed) core.state ≡ Some new.state
   pub count : new.executed ≡ n
 
-pub CaughtUp-from : (code : List ℕ) (bytes n : ℕ) (core new : Core) → caught_up code bytes n core ≡ Some new → CaughtUp code bytes n core new
+pub CaughtUp-from : (code : List ℕ) (bytes n : ℕ) (core new : Core) → caught_up code bytes n core ≡ Some new
+    → CaughtUp code bytes n core new
 unfolding caught_up
 CaughtUp-from code bytes n core new h =
-    let parts = where_true (nat_le core.executed n) (option_map (λ (s : CoreState). at n s) (quiet_steps code bytes (n - core.executed) core.state)) new h in
-    let found = map-some (λ (s : CoreState). at n s) (quiet_steps code bytes (n - core.executed) core.state) new parts.1 in
+    let parts = cond_some_parts (nat_le core.executed n)
+    (option_map (λ (s : CoreState). at n s) (quiet_steps code bytes (n - core.executed) core.state)) new h in
+    let found = option_map_parts (λ (s : CoreState). at n s) (quiet_steps code bytes (n - core.executed) core.state) new parts.1 in
     record {
       before = leb-true core.executed n parts.0;
       steps = rw (← found.2) found.1;
@@ -94,7 +71,14 @@ caught_up-twice code bytes m n core mid h below =
     let first : CaughtUp code bytes m core mid = CaughtUp-from code bytes m core mid h in
     let split : n - core.executed ≡ (m - core.executed) + (n - m) = (let b : core.executed ≤ m = first.before in omega arith) in
     let within : core.executed ≤ n = (let b : core.executed ≤ m = first.before in omega arith) in
-    rw (le-leb core.executed n within, split, quiet_steps-add code bytes (m - core.executed) (n - m) core.state, first.steps, first.count, le-leb m n below) refl
+    rw (
+      le-leb core.executed n within,
+      split,
+      quiet_steps-add code bytes (m - core.executed) (n - m) core.state,
+      first.steps,
+      first.count,
+      le-leb m n below,
+    ) refl
 
 -- a core can't catch up past a stop or an access
 pub caught_up-blocked : (code : List ℕ) (bytes m n : ℕ) (core mid : Core) → caught_up code bytes m core ≡ Some mid → m < n
@@ -120,8 +104,9 @@ pub entered_all-append : (first others : List Entry) (machine : FlatMachine)
 unfolding entered_all
 entered_all-append [] others machine = refl
 entered_all-append (entry ∷ entries) others machine =
-    and_then-same (entered_all (entries ++ others)) (λ next. option_and_then (entered_all others) (entered_all entries next)) (λ next. entered_all-append entries others next) (entered entry machine)
-    ∙ sym (and_then-assoc (entered_all entries) (entered_all others) (entered entry machine))
+    option_and_then-same (entered_all (entries ++ others)) (λ next. option_and_then (entered_all others) (entered_all entries next))
+    (λ next. entered_all-append entries others next) (entered entry machine)
+    ∙ sym (option_and_then-assoc (entered_all entries) (entered_all others) (entered entry machine))
 
 -- one entry more
 pub entered_all-more : (entries : List Entry) (entry : Entry) (machine : FlatMachine)
@@ -129,4 +114,5 @@ pub entered_all-more : (entries : List Entry) (entry : Entry) (machine : FlatMac
 unfolding entered_all
 entered_all-more entries entry machine =
     entered_all-append entries (entry ∷ []) machine
-    ∙ and_then-same (entered_all (entry ∷ [])) (entered entry) (λ next. and_then-some (entered entry next)) (entered_all entries machine)
+    ∙ option_and_then-same (entered_all (entry ∷ [])) (entered entry) (λ next. option_and_then-Some (entered entry next))
+    (entered_all entries machine)

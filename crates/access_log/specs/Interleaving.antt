@@ -15,7 +15,8 @@ pub record RunsAlone (code memory : List ℕ) (start : CoreState) (order : List 
   pub end : caught_up code (4 * length memory) n mid ≡ Some final
 
 -- The order merges what each core does by itself from where it begins, and each entry finds what the entries before it left.
-pub record Interleaves (code memory : List ℕ) (starts : List CoreState) (order : List Entry) (counts : List ℕ) (finals : List Core) (new_memory : List ℕ) : Type 0 where
+pub record Interleaves (code memory : List ℕ) (starts : List CoreState) (order : List Entry) (counts : List ℕ) (finals : List Core)
+    (new_memory : List ℕ) : Type 0 where
   pub within : AllByRecursion (λ entry. entry.core < length starts) order
   pub remembers : memory_after order memory ≡ Some new_memory
   pub counts_are : length counts ≡ length starts

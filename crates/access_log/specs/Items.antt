@@ -1,11 +1,16 @@
 -- The items of a history: its entries, and the memory that they leave.
-use Rattle.std.specs.Prelude.{◌≡◌, ℕ, Bool, ◌==◌, if◌then◌else◌, List, [], ◌∷◌}
+use Rattle.std.specs.Prelude.{◌≡◌, ℕ, ◌^◌, ◌<◌, Bool, ◌==◌, if◌then◌else◌, List, [], ◌∷◌, IfSome}
 use Rattle.mips_isa.specs.Kinds.{part}
 use Rattle.access_log.specs.declared.Entry.{Entry}
 use Rattle.access_log.specs.declared.Transaction.{Transaction}
 use Rattle.access_log.specs.declared.Item.{Item}
 use Rattle.access_log.specs.declared.Item.TheVariants.{Done, Bus}
 use Rattle.access_log.specs.Memory.{word_at, after}
+
+-- The words that an access found and stored have 32 bits.
+abbrev pub HasWords : Item → Type 0
+HasWords (Done entry) = (entry.old < 2 ^ 32) × IfSome entry.new (λ word. word < 2 ^ 32)
+HasWords (Bus transaction) = Unit {0}
 
 -- Its entries, in order.
 abbrev pub entries : List Item → List Entry

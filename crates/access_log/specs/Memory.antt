@@ -1,5 +1,6 @@
--- Flat memory: one list of words, place i of which is the word at address 4i.
-use Rattle.std.specs.Prelude.{ℕ, Bool, true, false, ◌&&◌, ◌==◌, ◌/◌, if◌then◌else◌, Option, Some, None, List, [], ◌∷◌, slice_index, slice_set}
+-- Flat memory: one list of words, index i of which is the word at address 4i.
+use Rattle.std.specs.Prelude.{ℕ, Bool, true, false, ◌&&◌, ◌==◌, ◌/◌, if◌then◌else◌, Option, Some, None, List, [], ◌∷◌, slice_index}
+use Rattle.std.specs.Prelude.{slice_set}
 use Rattle.mips_isa.specs.declared.Kind.{Kind}
 use Rattle.mips_isa.specs.declared.Kind.TheVariants.{Fetch, Lw, Sw, Cas}
 use Rattle.mips_isa.specs.declared.Access.{Access}

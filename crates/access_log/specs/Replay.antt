@@ -1,5 +1,6 @@
 -- The sequential machine: cores over one flat memory, stepped by a list of entries.
-use Rattle.std.specs.Prelude.{ℕ, zero, suc, ◌+◌, ◌-◌, ◌*◌, ◌==◌, nat_le, if◌then◌else◌, Option, Some, None, List, [], ◌∷◌, length, slice_get, slice_set, filter, map}
+use Rattle.std.specs.Prelude.{ℕ, zero, suc, ◌+◌, ◌-◌, ◌*◌, ◌==◌, nat_le, if◌then◌else◌, Option, Some, None, List, [], ◌∷◌, length}
+use Rattle.std.specs.Prelude.{slice_get, slice_set, filter, map}
 use Rattle.std.specs.Option.{option_and_then, option_map}
 use Rattle.mips_isa.specs.declared.CoreState.{CoreState}
 use Rattle.mips_isa.specs.declared.Next.{Next}
@@ -76,19 +77,19 @@ unfoldable pub entered_all : List Entry → FlatMachine → Option FlatMachine
 entered_all [] machine = Some machine
 entered_all (entry ∷ entries) machine = option_and_then (entered_all entries) (entered entry machine)
 
--- A machine with another core in a place.
+-- A machine with another core at an index.
 abbrev pub with_core : FlatMachine → ℕ → Core → FlatMachine
-with_core machine place core = record { code = machine.code; cores = slice_set machine.cores place core; memory = machine.memory }
+with_core machine index core = record { code = machine.code; cores = slice_set machine.cores index core; memory = machine.memory }
 
--- The machine after the core in a place has caught up to n executed instructions.
+-- The machine after the core at an index has caught up to n executed instructions.
 abbrev pub moved : ℕ → ℕ → FlatMachine → Option FlatMachine
-moved place n machine =
-    option_map (with_core machine place) (option_and_then (caught_up_in machine n) (slice_get machine.cores place))
+moved index n machine =
+    option_map (with_core machine index) (option_and_then (caught_up_in machine n) (slice_get machine.cores index))
 
--- The machine after the cores from a place on have caught up to these counts.
+-- The machine after the cores from an index on have caught up to these counts.
 unfoldable pub ended : ℕ → List ℕ → FlatMachine → Option FlatMachine
-ended place [] machine = Some machine
-ended place (n ∷ counts) machine = option_and_then (ended (place + 1) counts) (moved place n machine)
+ended index [] machine = Some machine
+ended index (n ∷ counts) machine = option_and_then (ended (index + 1) counts) (moved index n machine)
 
 -- A core at the start, in this state.
 abbrev pub starting : CoreState → Core

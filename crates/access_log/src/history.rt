@@ -1,6 +1,8 @@
 //! The list of what was done.
 ghost use Rattle.std.specs.Prelude.{◌≡◌, ℕ, ◌+◌, ◌<◌, ◌≤◌, ◌++◌, ◌∷◌, [], length, slice_get, IfOk};
-ghost use Rattle.access_log.specs.Places.{last_below, before, IsOfCore};
+ghost use Rattle.std.specs.List.{All};
+ghost use Rattle.access_log.specs.Indices.{last_below, before, IsOfCore};
+ghost use Rattle.access_log.specs.Items.{HasWords};
 
 use crate::{Item, NoMemory};
 use std::alloc::Global;
@@ -13,15 +15,17 @@ use std::marker::Model;
 #[derive(Drop)]
 pub struct History {
     items: Vec<Item>,
-    /// For each item, the place of its core's entry before it.
+    /// For each item, the index of its core's entry before it.
     links: Vec<Option<u32>>,
-    /// For each core, the place of its last entry.
+    /// For each core, the index of its last entry.
     last: [Option<u32>; 8],
     spare: u32,
 }
 
 impl Model for History {
     ghost use Rattle.std.specs.Prelude.{◌+◌, ◌<◌, ◌≤◌, ◌^◌, vec_len, vec_capacity};
+    ghost use Rattle.std.specs.List.{All};
+    ghost use Rattle.access_log.specs.Items.{HasWords};
     ghost use Rattle.access_log.specs.HistoryView.{HistoryValue, IsLinked};
 
     ghost Value = { HistoryValue };
@@ -31,7 +35,8 @@ impl Model for History {
     ghost invariant = { λ h. IsLinked h.items.items h.links.items h.last
         × (vec_len h.items + h.spare ≤ vec_capacity h.items)
         × (vec_len h.links + h.spare ≤ vec_capacity h.links)
-        × (vec_len h.items + h.spare < 2 ^ 32) };
+        × (vec_len h.items + h.spare < 2 ^ 32)
+        × All HasWords h.items.items };
 }
 
 impl History {
@@ -57,9 +62,9 @@ impl History {
         ensures items { self.new.items ≡ self.old.items ++ item ∷ [] }
         ensures spare { self.new.spare + 1 ≡ self.old.spare }
     {
-        let place = self.items.len() as u32;
+        let index = self.items.len() as u32;
         let link = match item {
-            Item::Done(entry) => self.last[entry.core as usize].replace(place),
+            Item::Done(entry) => self.last[entry.core as usize].replace(index),
             Item::Bus(_) => None,
         };
         self.items.push_reserved(item);
@@ -70,6 +75,7 @@ impl History {
     /// The items, the oldest first.
     pub fn items(&self) -> &[Item]
         ensures items { result.now ≡ self.now.items }
+        ensures words { All HasWords result.now }
     {
         &self.items
     }
@@ -81,25 +87,25 @@ impl History {
         self.items.len() as u32
     }
 
-    /// The item at a place, counted from 0.
-    pub fn get(&self, place: u32) -> Option<Item>
-        ensures item { result ≡ slice_get self.now.items place }
+    /// The item at an index, counted from 0.
+    pub fn get(&self, index: u32) -> Option<Item>
+        ensures item { result ≡ slice_get self.now.items index }
     {
-        self.items.get(place as usize).copied()
+        self.items.get(index as usize).copied()
     }
 
-    /// The place of a core's last entry. It takes the same time for a history of any length.
+    /// The index of a core's last entry. It takes the same time for a history of any length.
     pub fn last_of(&self, core: u32) -> Option<u32>
         ensures last { result ≡ last_below self.now.items (length self.now.items) core }
     {
         self.last.get(core as usize).copied().flatten()
     }
 
-    /// The place of the entry of the same core before the one at a place; none where no entry
+    /// The index of the entry of the same core before the one at an index; none where no entry
     /// stands there. It takes the same time for a history of any length.
-    pub fn before(&self, place: u32) -> Option<u32>
-        ensures before { result ≡ before self.now.items place }
+    pub fn before(&self, index: u32) -> Option<u32>
+        ensures before { result ≡ before self.now.items index }
     {
-        self.links.get(place as usize).copied().flatten()
+        self.links.get(index as usize).copied().flatten()
     }
 }

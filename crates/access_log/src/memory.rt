@@ -1,4 +1,4 @@
-//! What an access finds in memory and leaves there. Place i of a memory is the word at the byte
+//! What an access finds in memory and leaves there. Index i of a memory is the word at the byte
 //! address 4i.
 ghost use Rattle.std.specs.Prelude.{◌≡◌, ◌*◌, ◌%◌, ◌<◌, length};
 ghost use Rattle.mips_isa.specs.Kinds.{width};
@@ -54,7 +54,7 @@ pub fn store(memory: &mut [u32], entry: &Entry)
     ensures stored { memory.new ≡ after memory.old entry.now }
 {
     if let Some(value) = entry.new {
-        let place = (entry.addr / 4) as usize;
-        memory[place] = effects::with_part(entry.kind, entry.addr, memory[place], value);
+        let index = (entry.addr / 4) as usize;
+        memory[index] = effects::with_part(entry.kind, entry.addr, memory[index], value);
     }
 }

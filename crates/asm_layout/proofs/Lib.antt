@@ -1,5 +1,5 @@
-pub mod SplitLaws
 pub mod PlacesLaws
 pub mod LabelsLemmas
 pub mod PassesLemmas
 pub mod RoomLaws
+pub mod DelaySlotsLemmas

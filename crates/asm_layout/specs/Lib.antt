@@ -1,3 +1,5 @@
 pub mod Places
 pub mod Labels
 pub mod Passes
+pub mod DelaySlots
+pub mod Worked

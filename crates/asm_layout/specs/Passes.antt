@@ -1,5 +1,6 @@
 -- What is wrong with the statements of a source, in passes.
-use Rattle.std.specs.Prelude.{◌≡◌, ℕ, ◌+◌, ◌*◌, ◌^◌, Bool, not, true, ◌==◌, ◌&&◌, ◌||◌, nat_lt, nat_le, if◌then◌else◌, List, [], ◌∷◌, ◌++◌, Option, Some, None, is_some, min, Result, Ok, Err}
+use Rattle.std.specs.Prelude.{◌≡◌, ℕ, ◌+◌, ◌*◌, ◌^◌, Bool, not, true, ◌==◌, ◌&&◌, ◌||◌, nat_lt, nat_le, if◌then◌else◌, List, [], ◌∷◌, ◌++◌}
+use Rattle.std.specs.Prelude.{Option, Some, None, is_some, min, Result, Ok, Err}
 use Rattle.std.specs.Borrow.{Bor}
 use Rattle.std.specs.BTreeMap.{BTreeMap}
 use Rattle.asm_token.specs.declared.fault.AsmCause.{AsmCause}
@@ -55,7 +56,8 @@ goes_past limit end size = nat_lt 0 size && nat_lt limit (end + size)
 abbrev pub room_fault : ℕ → Place → Body → Option AsmCause
 room_fault memory place (DataAt start) = fault_if (nat_lt start place.data_end || nat_lt memory start) Range
 room_fault memory place body =
-    fault_if (goes_past (min memory (4 * 65536)) place.code_end (code_size body) || goes_past memory place.data_end (data_size body)) TooMuch
+    fault_if (goes_past (min memory (4 * 65536)) place.code_end (code_size body) || goes_past memory place.data_end (data_size body))
+    TooMuch
 
 abbrev pub room_test : ℕ → ℕ → List Statement → Statement → Option AsmCause
 room_test memory end before s = room_fault memory (place_behind end before) s.body

@@ -55,4 +55,5 @@ address_at place = (elim place.part [ parts.Text ↦ place.code_end | parts.Data
 
 -- the place behind one more statement
 abbrev pub place_moved : Place → Body → Place
-place_moved place body = record { part = part_moved place.part body; code_end = place.code_end + code_size body; data_end = data_moved place.data_end body }
+place_moved place body = record
+    { part = part_moved place.part body; code_end = place.code_end + code_size body; data_end = data_moved place.data_end body }

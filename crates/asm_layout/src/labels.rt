@@ -25,7 +25,7 @@ pub fn address_of(labels: &Labels<'_>, name: &[u8]) -> Option<u64>
 fn add_label<'a>(
     labels: &mut Labels<'a>,
     place: Place,
-    statement: &'a Statement,
+    statement: &Statement<'a>,
 ) -> Result<(), AsmFault>
     ensures added { OnOk result ((known : Addresses) → HoldsLabels labels.old known →
         (twice_fault known statement.now.body ≡ None)
@@ -45,7 +45,7 @@ fn add_label<'a>(
 /// The labels of a source whose code ends at `end`.
 pub fn labels_of<'a>(
     alloc: Global,
-    statements: &'a [Statement],
+    statements: &[Statement<'a>],
     end: u64,
 ) -> Result<Labels<'a>, AsmFault>
     requires few { length statements.now ≤ MOST_STATEMENTS }

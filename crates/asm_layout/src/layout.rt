@@ -14,7 +14,7 @@ use std::alloc::Global;
 pub const MOST_STATEMENTS: usize = 16_777_216;
 
 /// How many bytes of code the statements have, without a `nop` behind them.
-fn code_bytes(statements: &[Statement]) -> u64
+fn code_bytes(statements: &[Statement<'_>]) -> u64
     requires few { length statements.now ≤ MOST_STATEMENTS }
     ensures value { result ≡ code_behind statements.now }
     ensures bound { result ≤ 8 * MOST_STATEMENTS }
@@ -32,7 +32,7 @@ fn code_bytes(statements: &[Statement]) -> u64
 #[tactic(auto, unfolding(crate::specs::Passes::layout_fault))]
 pub fn lay_out<'a>(
     alloc: Global,
-    statements: &'a [Statement],
+    statements: &[Statement<'a>],
     memory: u64,
 ) -> Result<Labels<'a>, AsmFault>
     requires few { length statements.now ≤ MOST_STATEMENTS }

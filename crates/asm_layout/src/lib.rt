@@ -5,15 +5,17 @@
 //! Laws for the crates above:
 //! - `proofs/PlacesLaws`: places, one statement after the other.
 //! - `proofs/RoomLaws`: what holds of a layout without a fault.
-//! - `proofs/SplitLaws`: statements that are split before one of them.
 #![tactic(auto)]
 
+mod delay_slots;
 mod labels;
+pub mod laws;
 mod layout;
 mod operands;
 mod place;
 mod room;
 
+pub use delay_slots::split_lines;
 pub use labels::{Labels, address_of};
 pub use layout::{MOST_STATEMENTS, lay_out};
 pub use place::{Place, code_size};

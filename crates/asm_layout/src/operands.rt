@@ -17,7 +17,7 @@ fn branch_reaches(here: u64, address: u64) -> bool
 }
 
 /// What is wrong with the operand of a statement whose code is at `here`.
-fn operand_fault(labels: &Labels<'_>, here: u64, body: &Body) -> Option<AsmCause>
+fn operand_fault(labels: &Labels<'_>, here: u64, body: &Body<'_>) -> Option<AsmCause>
     requires here { here < 2 ^ 62 }
     ensures value { (known : Addresses) → HoldsLabels labels.now known → result ≡ operand_fault known here body.now }
 {
@@ -38,7 +38,10 @@ fn operand_fault(labels: &Labels<'_>, here: u64, body: &Body) -> Option<AsmCause
 }
 
 /// The first fault in the operands of a source's statements.
-pub fn first_bad_operand(labels: &Labels<'_>, statements: &[Statement]) -> Option<(AsmCause, u32)>
+pub fn first_bad_operand(
+    labels: &Labels<'_>,
+    statements: &[Statement<'_>],
+) -> Option<(AsmCause, u32)>
     requires few { length statements.now ≤ MOST_STATEMENTS }
     ensures value { (known : Addresses) → HoldsLabels labels.now known → result ≡ first_fault (operand_test known) [] statements.now }
 {

@@ -14,7 +14,7 @@ pub struct Place {
 }
 
 /// How many bytes of code a statement has.
-pub fn code_size(body: &Body) -> u64
+pub fn code_size(body: &Body<'_>) -> u64
     ensures value { result ≡ code_size body.now }
     ensures bound { result ≤ 8 }
 {
@@ -26,7 +26,7 @@ pub fn code_size(body: &Body) -> u64
 }
 
 /// How many bytes of data a statement has.
-pub fn data_size(body: &Body) -> u64
+pub fn data_size(body: &Body<'_>) -> u64
     ensures value { result ≡ data_size body.now }
     ensures bound { result < 2 ^ 32 }
 {
@@ -63,7 +63,7 @@ impl Place {
     }
 
     /// The place behind one more statement.
-    pub fn moved(self, body: &Body) -> Place
+    pub fn moved(self, body: &Body<'_>) -> Place
         requires code { self.code_end < 2 ^ 62 }
         requires segment { self.data_end < 2 ^ 62 }
         ensures value { result ≡ place_moved self body.now }

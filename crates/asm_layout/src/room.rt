@@ -19,7 +19,7 @@ fn goes_past(limit: u64, end: u64, size: u64) -> bool
 }
 
 /// What is wrong with the room of a statement.
-fn room_fault(memory: u64, place: Place, body: &Body) -> Option<AsmCause>
+fn room_fault(memory: u64, place: Place, body: &Body<'_>) -> Option<AsmCause>
     requires code { place.code_end < 2 ^ 62 }
     requires segment { place.data_end < 2 ^ 62 }
     ensures value { result ≡ room_fault memory place body.now }
@@ -35,7 +35,7 @@ fn room_fault(memory: u64, place: Place, body: &Body) -> Option<AsmCause>
 
 /// The first fault in the room of a source's statements, where its code ends at `end`.
 pub fn first_without_room(
-    statements: &[Statement],
+    statements: &[Statement<'_>],
     memory: u64,
     end: u64,
 ) -> Option<(AsmCause, u32)>

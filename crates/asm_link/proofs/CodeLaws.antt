@@ -14,10 +14,10 @@ use Rattle.mips_isa.proofs.FieldLaws.{instr_of-word_of}
 use Rattle.asm_parse.specs.declared.statement.Body.{Body}
 use Rattle.asm_parse.specs.declared.statement.Body.TheVariants as bodies
 use Rattle.asm_parse.specs.declared.statement.Statement.{Statement}
-use Rattle.asm_parse.specs.Statements.{IsProperBody, IsBranch, AreProper, upper_half, lower_half}
+use Rattle.asm_parse.specs.Statements.{IsProperBody, IsBranch, AreProper, lower_half}
 use Rattle.asm_layout.specs.Places.{code_size, code_behind, code_end}
 use Rattle.asm_layout.specs.Labels.{Addresses}
-use Rattle.asm_link.specs.Assembly.{address_of, word_in, distance, branch_by, load_of, instrs_of, code_from, padded}
+use Rattle.asm_link.specs.Assembly.{address_of, word_in, distance, branch_by, upper_half, load_of, instrs_of, code_from, padded}
 
 -- a word that spells an instruction
 abbrev IsWord : ℕ → Type 0
@@ -64,7 +64,8 @@ code_spelled known before (s ∷ ss) proper =
     (code_spelled known (before ++ s ∷ []) ss (All-tail P s ss proper))
 
 pub padded_spelled : (words : List ℕ) → IsCode words → IsCode (padded words)
-padded_spelled words spells = All-append IsWord words (replicate (length words % 2) 0) spells (All-replicate IsWord (length words % 2) 0 nop_spelled)
+padded_spelled words spells = All-append IsWord words (replicate (length words % 2) 0) spells
+    (All-replicate IsWord (length words % 2) 0 nop_spelled)
 
 length-instrs_of : (known : Addresses) (here : ℕ) (body : Body) → 4 * length (map word_of (instrs_of known here body)) ≡ code_size body
 length-instrs_of known here (bodies.Plain instr) = refl
@@ -79,7 +80,13 @@ length-code_from known before [] = refl
 length-code_from known before (s ∷ ss) =
     let here = map word_of (instrs_of known (code_behind before) s.body) in
     let others = code_from known (before ++ s ∷ []) ss in
-    omega (arith, length-append here others, length-instrs_of known (code_behind before) s.body, length-code_from known (before ++ s ∷ []) ss, sum_by-cons (λ (t : Statement). code_size t.body) s ss)
+    omega (
+      arith,
+      length-append here others,
+      length-instrs_of known (code_behind before) s.body,
+      length-code_from known (before ++ s ∷ []) ss,
+      sum_by-cons (λ (t : Statement). code_size t.body) s ss,
+    )
 
 pub length-padded : (words : List ℕ) → length (padded words) ≡ length words + length words % 2
 length-padded words = grind (arith, common_steps)

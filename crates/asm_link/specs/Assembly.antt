@@ -1,5 +1,6 @@
 -- The image that the statements of a source mean.
-use Rattle.std.specs.Prelude.{ℕ, ◌+◌, ◌-◌, ◌*◌, ◌/◌, ◌%◌, ◌^◌, Bool, true, false, if◌then◌else◌, List, [], ◌∷◌, ◌++◌, length, map, replicate, Some, None, unwrap_or, Result, Ok, Err}
+use Rattle.std.specs.Prelude.{◌≡◌, ℕ, ◌+◌, ◌-◌, ◌*◌, ◌/◌, ◌%◌, ◌^◌, ◌<◌, Bool, true, false, if◌then◌else◌, List, [], ◌∷◌, ◌++◌, length, map}
+use Rattle.std.specs.Prelude.{replicate, Some, None, unwrap_or, Result, Ok, Err}
 use Rattle.mips_isa.specs.declared.Instr.{Instr}
 use Rattle.mips_isa.specs.declared.Instr.TheVariants as instrs
 use Rattle.mips_isa.specs.declared.ImmOp.TheVariants.{Ori}
@@ -11,7 +12,7 @@ use Rattle.asm_parse.specs.declared.statement.Body.TheVariants.{Data, DataAt, Wo
 use Rattle.asm_parse.specs.declared.statement.Statement.{Statement}
 use Rattle.asm_parse.specs.declared.statement.Value.{Value}
 use Rattle.asm_parse.specs.declared.statement.Value.TheVariants as values
-use Rattle.asm_parse.specs.Statements.{upper_half, lower_half}
+use Rattle.asm_parse.specs.Statements.{lower_half}
 use Rattle.kmp_base.specs.Names.{named}
 use Rattle.asm_layout.specs.Places.{code_behind, code_end}
 use Rattle.asm_layout.specs.Labels.{Addresses, labels_of}
@@ -35,9 +36,18 @@ branch_by imm (instrs.BranchTwo differ rs rt other) = instrs.BranchTwo differ rs
 branch_by imm (instrs.BranchZero op rs other) = instrs.BranchZero op rs imm
 branch_by imm other = other
 
--- two instructions that load a word into a register
+-- the upper half of a word
+abbrev pub upper_half : ℕ → ℕ
+upper_half n = n / 2 ^ 16 % 2 ^ 16
+
+-- Two instructions that load a word into a register, its upper half first.
 abbrev pub load_of : ℕ → ℕ → List Instr
 load_of rt word = instrs.Lui rt (upper_half word) ∷ instrs.AluImm Ori rt rt (lower_half word) ∷ []
+
+-- The halves make the word up, and stand where they belong.
+pub record LoadsAreWhole : Type 0 where
+  pub halves : (word : ℕ) → word < 2 ^ 32 → 2 ^ 16 * upper_half word + lower_half word ≡ word
+  pub worked : load_of 2 0x12345678 ≡ instrs.Lui 2 0x1234 ∷ instrs.AluImm Ori 2 2 0x5678 ∷ []
 
 -- The instructions of a statement whose code is at `here`.
 abbrev pub instrs_of : Addresses → ℕ → Body → List Instr
@@ -72,7 +82,8 @@ words_before_next labels (body ∷ rest) = data_words labels body ++ words_befor
 -- a segment for each `.data` with an address
 abbrev pub addressed_segments : Addresses → List Body → List SegmentValue
 addressed_segments labels [] = []
-addressed_segments labels (DataAt start ∷ rest) = record { start = start; words = words_before_next labels rest } ∷ addressed_segments labels rest
+addressed_segments labels (DataAt start ∷ rest) = record { start = start; words = words_before_next labels rest }
+    ∷ addressed_segments labels rest
 addressed_segments labels (body ∷ rest) = addressed_segments labels rest
 
 -- whether a `.data` without an address stands before all of those with one

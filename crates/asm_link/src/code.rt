@@ -66,7 +66,7 @@ fn push_code(
     code: &mut Vec<u32>,
     labels: &Labels<'_>,
     here: u64,
-    body: &Body,
+    body: &Body<'_>,
 ) -> Result<(), NoMemory>
     requires proper { IsProperBody body.now }
     requires room { here + code_size body.now ≤ 2 ^ 18 }
@@ -92,7 +92,7 @@ fn push_code(
 pub fn code_words(
     alloc: Global,
     labels: &Labels<'_>,
-    statements: &[Statement],
+    statements: &[Statement<'_>],
 ) -> Result<Vec<u32>, NoMemory>
     requires proper { AreProper statements.now }
     requires room { code_behind statements.now ≤ 2 ^ 18 }

@@ -20,7 +20,7 @@ use std::alloc::Global;
 #[tactic(auto, unfolding(crate::specs::Assembly::image_of))]
 pub fn assemble(
     alloc: Global,
-    statements: &[Statement],
+    statements: &[Statement<'_>],
     memory_lines: u32,
 ) -> Result<Image, AsmFault>
     requires some_lines { 2 ≤ memory_lines }

@@ -5,6 +5,7 @@
 
 mod code;
 mod image;
+pub mod laws;
 mod segments;
 mod values;
 

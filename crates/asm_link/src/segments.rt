@@ -1,5 +1,7 @@
 //! The segments of a source.
 ghost use Rattle.std.specs.Prelude.{◌≡◌, ◌++◌, map, IfOk, OnOk};
+ghost use Rattle.std.specs.List.{All, AllByRecursion};
+ghost use Rattle.image_file.specs.Value.{IsNumber, HasWords};
 ghost use Rattle.asm_layout.specs.Labels.{Addresses, HoldsLabels};
 ghost use Rattle.asm_link.specs.Assembly.{data_words, words_before_next, addressed_segments, goes_on_behind_code, segments_of};
 
@@ -10,8 +12,9 @@ use image_file::{NoMemory, Segment};
 use std::alloc::Global;
 
 /// Goes on with the data of a statement.
-fn push_data(words: &mut Vec<u32>, labels: &Labels<'_>, body: &Body) -> Result<(), NoMemory>
+fn push_data(words: &mut Vec<u32>, labels: &Labels<'_>, body: &Body<'_>) -> Result<(), NoMemory>
     ensures words { OnOk result ((known : Addresses) → HoldsLabels labels.now known → words.new.items ≡ words.old.items ++ data_words known body.now) }
+    ensures fit { All IsNumber words.old.items → OnOk result (All IsNumber words.new.items) }
 {
     match body {
         Body::Word(value) => words.push(value_word(labels, value))?,
@@ -25,9 +28,10 @@ fn push_data(words: &mut Vec<u32>, labels: &Labels<'_>, body: &Body) -> Result<(
 fn words_before_next(
     alloc: Global,
     labels: &Labels<'_>,
-    statements: &[Statement],
+    statements: &[Statement<'_>],
 ) -> Result<Vec<u32>, NoMemory>
     ensures words { IfOk result (λ words. (known : Addresses) → HoldsLabels labels.now known → words.items ≡ words_before_next known (map (λ s. s.body) statements.now)) }
+    ensures fit { IfOk result (λ words. AllByRecursion IsNumber words.items) }
 {
     let mut words = Vec::new(alloc);
     let mut left = statements;
@@ -42,7 +46,7 @@ fn words_before_next(
 }
 
 /// Whether a `.data` without an address stands before all of those with one.
-fn goes_on_behind_code(statements: &[Statement]) -> bool
+fn goes_on_behind_code(statements: &[Statement<'_>]) -> bool
     ensures value { result ≡ goes_on_behind_code (map (λ s. s.body) statements.now) }
 {
     let mut left = statements;
@@ -61,9 +65,10 @@ fn push_addressed(
     segments: &mut Vec<Segment>,
     alloc: Global,
     labels: &Labels<'_>,
-    statements: &[Statement],
+    statements: &[Statement<'_>],
 ) -> Result<(), NoMemory>
     ensures segments { OnOk result ((known : Addresses) → HoldsLabels labels.now known → segments.new.items ≡ segments.old.items ++ addressed_segments known (map (λ s. s.body) statements.now)) }
+    ensures fit { AllByRecursion HasWords segments.old.items → OnOk result (AllByRecursion HasWords segments.new.items) }
 {
     let mut left = statements;
     while let [statement, rest @ ..] = left {
@@ -85,9 +90,10 @@ pub fn segments_of(
     alloc: Global,
     labels: &Labels<'_>,
     end: u32,
-    statements: &[Statement],
+    statements: &[Statement<'_>],
 ) -> Result<Vec<Segment>, NoMemory>
     ensures segments { IfOk result (λ segments. (known : Addresses) → HoldsLabels labels.now known → segments.items ≡ segments_of known end (map (λ s. s.body) statements.now)) }
+    ensures fit { IfOk result (λ segments. AllByRecursion HasWords segments.items) }
 {
     let mut segments = Vec::new(alloc);
     if goes_on_behind_code(statements) {

@@ -15,7 +15,7 @@ pub fn label_word(labels: &Labels<'_>, name: &[u8]) -> u32
 }
 
 /// The word of a value.
-pub fn value_word(labels: &Labels<'_>, value: &Value) -> u32
+pub fn value_word(labels: &Labels<'_>, value: &Value<'_>) -> u32
     ensures word { (known : Addresses) → HoldsLabels labels.now known → result ≡ word_in known value.now }
 {
     match value {

@@ -2,12 +2,12 @@
 use Rattle.std.proofs.Common.{ℕ, zero, suc, ◌+◌, ◌≤◌, List, [], ◌∷◌, ◌++◌, map, arith}
 use Rattle.std.specs.Prelude.{IfOk, All}
 use Rattle.std.specs.List.{enumerate_from}
+use Rattle.kmp_base.proofs.ReadingLaws.{then_holds, if_holds}
 use Rattle.asm_token.specs.Faults.{at_line}
 use Rattle.asm_parse.specs.declared.statement.Body.{Body}
 use Rattle.asm_parse.specs.declared.statement.Part.{Part}
 use Rattle.asm_parse.specs.declared.statement.Statement.{Statement}
 use Rattle.asm_parse.specs.Lines.{lines_of, on_line, line_of, statements_from, statements_of, AreRising}
-use Rattle.asm_parse.proofs.ReadingLemmas.{then_holds, if_holds}
 
 -- the statements rise, from a line on
 abbrev RiseFrom : ℕ → List Statement → Type 0
@@ -25,7 +25,8 @@ rise_cons number body ss rest = (above, rising) where
   rising (suc i) zero d le lt = absurd (omega (arith, le))
   rising (suc i) (suc j) d le lt = rest.1 i j d (omega (arith, le)) (omega (arith, lt))
 
-rise_before : (number : ℕ) (bodies : List Body) (ss : List Statement) → RiseFrom number ss → RiseFrom number (map (on_line number) bodies ++ ss)
+rise_before : (number : ℕ) (bodies : List Body) (ss : List Statement) → RiseFrom number ss
+    → RiseFrom number (map (on_line number) bodies ++ ss)
 rise_before number [] ss rest = rest
 rise_before number (body ∷ bodies) ss rest = rise_cons number body (map (on_line number) bodies ++ ss) (rise_before number bodies ss rest)
 
@@ -34,7 +35,8 @@ unfolding statements_from
 rise_from part number [] = (λ k d lt. absurd (omega (arith, lt)), λ i j d le lt. absurd (omega (arith, lt)))
 rise_from part number (line ∷ lines) =
     then_holds (at_line number (line_of part line)) _ (RiseFrom number) (λ here.
-    if_holds (statements_from here.1 (enumerate_from (number + 1) lines)) _ (RiseFrom (number + 1)) (RiseFrom number) (rise_from here.1 (number + 1) lines) (λ others rise.
+    if_holds (statements_from here.1 (enumerate_from (number + 1) lines)) _ (RiseFrom (number + 1)) (RiseFrom number)
+    (rise_from here.1 (number + 1) lines) (λ others rise.
     rise_before number here.0 others (λ k d lt. omega (arith, rise.0 k d lt), rise.1)))
 
 pub rise_in_text : (text : List ℕ) → IfOk (statements_of text) (RiseFrom 1)

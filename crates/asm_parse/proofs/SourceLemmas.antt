@@ -5,6 +5,7 @@ use Rattle.std.specs.Fmt.{digits}
 use Rattle.std.specs.List.{list_all, enumerate_from}
 use Rattle.std.proofs.lemmas.Bool.{agree_below, agree_below_at, and_parts}
 use Rattle.std.proofs.lemmas.Bool.Decides.{nat_tests}
+use Rattle.std_laws.proofs.ListLaws.{list_all-weaker}
 use Rattle.mips_isa.specs.Words.{IsProper}
 use Rattle.mips_isa.specs.declared.Instr.{Instr}
 use Rattle.mips_isa.specs.declared.Instr.TheVariants as instrs
@@ -19,7 +20,7 @@ use Rattle.mips_isa.specs.declared.ZeroOp.TheVariants.{Bltz, Bgez, Blez, Bgtz}
 use Rattle.asm_token.specs.declared.token.Token.{Token}
 use Rattle.asm_token.specs.declared.token.Token.TheVariants as tokens
 use Rattle.asm_token.specs.Printing.{is_name, can_be_written, printed_line}
-use Rattle.asm_token.proofs.PrintingLaws.{is_text_byte, all_pass, printed_writes, printed_bytes}
+use Rattle.asm_token.proofs.PrintingLaws.{is_text_byte, printed_writes, printed_bytes}
 use Rattle.asm_parse.specs.declared.statement.Body.{Body}
 use Rattle.asm_parse.specs.declared.statement.Body.TheVariants.{Label, Text, Data, DataAt, Word, Space, Plain, BranchTo, JumpTo, Load}
 use Rattle.asm_parse.specs.declared.statement.Part.{Part}
@@ -29,7 +30,9 @@ use Rattle.asm_parse.specs.declared.statement.Value.{Value}
 use Rattle.asm_parse.specs.declared.statement.Value.TheVariants as values
 use Rattle.asm_parse.specs.Lines.{is_within_line, lines_of, line_of, statements_from, statements_of}
 use Rattle.asm_parse.specs.Statements.{part_moved, IsProperBody}
-use Rattle.asm_parse.specs.Printing.{shift_name, shift_by_name, alu_name, imm_name, branch_name, zero_name, jump_name, register, number, signed_number, immediate, value_token, branch_tokens, instr_tokens, body_tokens, IsWord, HasNumbers, value_named, body_named, AreWritable, printed_text, on_lines}
+use Rattle.asm_parse.specs.Printing.{shift_name, shift_by_name, alu_name, imm_name, branch_name, zero_name, jump_name, register, number}
+use Rattle.asm_parse.specs.Printing.{signed_number, immediate, value_token, branch_tokens, instr_tokens, body_tokens, IsWord, HasNumbers}
+use Rattle.asm_parse.specs.Printing.{value_named, body_named, AreWritable, printed_text, on_lines}
 use Rattle.asm_parse.proofs.PrintingLemmas.{statement_read}
 
 -- The tokens of a statement can be written.
@@ -119,7 +122,8 @@ single name x first second = rw (first, second) refl
 addressed : (x imm y : Bool) → x ≡ true → imm ≡ true → y ≡ true → (x && (true && (imm && (true && (y && (true && true)))))) ≡ true
 addressed x imm y first second third = rw (first, second, third) refl
 
-branch_written : (instr : Instr) (place : Token) → IsProper instr → can_be_written place ≡ true → list_all can_be_written (branch_tokens instr place) ≡ true
+branch_written : (instr : Instr) (place : Token) → IsProper instr → can_be_written place ≡ true
+    → list_all can_be_written (branch_tokens instr place) ≡ true
 branch_written (instrs.BranchTwo differ x y imm) place proper written =
     triple _ _ _ _ (branch_named differ) (register_written x proper.0) (register_written y proper.1) written
 branch_written (instrs.BranchZero op x imm) place proper written = pair _ _ _ (zero_named op) (register_written x proper.0) written
@@ -127,7 +131,8 @@ branch_written other place proper written = refl
 
 instr_written : (instr : Instr) → IsProper instr → list_all can_be_written (instr_tokens instr) ≡ true
 instr_written (instrs.Shift op x y sa) proper =
-    triple _ _ _ _ (shift_named op) (register_written x proper.0) (register_written y proper.1) (number_written sa (omega (arith, proper.2)))
+    triple _ _ _ _ (shift_named op) (register_written x proper.0) (register_written y proper.1)
+    (number_written sa (omega (arith, proper.2)))
 instr_written (instrs.ShiftBy op x y z) proper =
     triple _ _ _ _ (shift_by_named op) (register_written x proper.0) (register_written y proper.1) (register_written z proper.2)
 instr_written (instrs.Alu op x y z) proper =
@@ -135,17 +140,23 @@ instr_written (instrs.Alu op x y z) proper =
 instr_written (instrs.AluImm op x y imm) proper =
     triple _ _ _ _ (imm_named op) (register_written x proper.0) (register_written y proper.1) (immediate_written op imm proper.2)
 instr_written (instrs.Lui x imm) proper = pair true _ _ refl (register_written x proper.0) (number_written imm (omega (arith, proper.1)))
-instr_written (instrs.BranchTwo differ x y imm) proper = branch_written (instrs.BranchTwo differ x y imm) (signed_number imm) proper (signed_written imm proper.2)
-instr_written (instrs.BranchZero op x imm) proper = branch_written (instrs.BranchZero op x imm) (signed_number imm) proper (signed_written imm proper.1)
+instr_written (instrs.BranchTwo differ x y imm) proper =
+    branch_written (instrs.BranchTwo differ x y imm) (signed_number imm) proper (signed_written imm proper.2)
+instr_written (instrs.BranchZero op x imm) proper =
+    branch_written (instrs.BranchZero op x imm) (signed_number imm) proper (signed_written imm proper.1)
 instr_written (instrs.Jump link index) proper = single _ _ (jump_named link) (number_written (4 * index) (omega (arith, proper)))
 instr_written (instrs.JumpReg x) proper = single true _ refl (register_written x proper)
 instr_written (instrs.JumpLink x y) proper = pair true _ _ refl (register_written x proper.0) (register_written y proper.1)
-instr_written (instrs.Lw x y imm) proper = addressed _ _ _ (register_written x proper.0) (signed_written imm proper.2) (register_written y proper.1)
-instr_written (instrs.Sw x y imm) proper = addressed _ _ _ (register_written x proper.0) (signed_written imm proper.2) (register_written y proper.1)
-instr_written (instrs.Cas x y z) proper = triple true _ _ _ refl (register_written x proper.0) (register_written y proper.1) (register_written z proper.2)
+instr_written (instrs.Lw x y imm) proper =
+    addressed _ _ _ (register_written x proper.0) (signed_written imm proper.2) (register_written y proper.1)
+instr_written (instrs.Sw x y imm) proper =
+    addressed _ _ _ (register_written x proper.0) (signed_written imm proper.2) (register_written y proper.1)
+instr_written (instrs.Cas x y z) proper =
+    triple true _ _ _ refl (register_written x proper.0) (register_written y proper.1) (register_written z proper.2)
 instr_written instrs.Halt proper = refl
 
-body_written : (body : Body) → IsProperBody body → HasNumbers body → body_named body ≡ true → list_all can_be_written (body_tokens body) ≡ true
+body_written : (body : Body) → IsProperBody body → HasNumbers body → body_named body ≡ true
+    → list_all can_be_written (body_tokens body) ≡ true
 body_written (Label label) proper fits named = single _ true named refl
 body_written Text proper fits named = refl
 body_written Data proper fits named = refl
@@ -169,7 +180,8 @@ line_split (b ∷ line) rest all =
     let each = and_parts (is_within_line b) (list_all is_within_line line) all in
     rw (each.0, line_split line rest each.1) refl
 
-statement_goes_on : (part behind : Part) (number : ℕ) (line : List ℕ) (lines : List (List ℕ)) (body : Body) (others : List Statement) → line_of part line ≡ Ok (body ∷ [], behind)
+statement_goes_on : (part behind : Part) (number : ℕ) (line : List ℕ) (lines : List (List ℕ)) (body : Body) (others : List Statement)
+    → line_of part line ≡ Ok (body ∷ [], behind)
     → statements_from behind (enumerate_from (number + 1) lines) ≡ Ok others
     → statements_from part (enumerate_from number (line ∷ lines)) ≡ Ok (record { line = number; body = body } ∷ others)
 unfolding statements_from
@@ -182,11 +194,13 @@ printed_from part number [] are = refl
 printed_from part number (body ∷ bodies) are =
     let ts = body_tokens body in
     let written = body_written body are.0 are.1 are.2 in
-    let within = all_pass is_text_byte is_within_line (printed_line ts) text_within_line (printed_bytes ts written) in
+    let within = list_all-weaker is_text_byte is_within_line text_within_line (printed_line ts) (printed_bytes ts written) in
     let read = statement_read part [] body (printed_line ts) are.0 are.1 are.3 (printed_writes ts written) in
     let rest = printed_from (part_moved part body) (number + 1) bodies are.4 in
-    ap (λ (lines : List (List ℕ)). statements_from part (enumerate_from number lines)) (line_split (printed_line ts) (printed_text bodies) within)
-    ∙ statement_goes_on part (part_moved part body) number (printed_line ts) (lines_of (printed_text bodies)) body (on_lines (number + 1) bodies) read rest
+    ap (λ (lines : List (List ℕ)). statements_from part (enumerate_from number lines))
+    (line_split (printed_line ts) (printed_text bodies) within)
+    ∙ statement_goes_on part (part_moved part body) number (printed_line ts) (lines_of (printed_text bodies)) body
+    (on_lines (number + 1) bodies) read rest
 
 pub text_read : (bodies : List Body) → AreWritable parts.Text bodies → statements_of (printed_text bodies) ≡ Ok (on_lines 1 bodies)
 text_read bodies are = printed_from parts.Text 1 bodies are

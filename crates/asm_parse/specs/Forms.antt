@@ -7,7 +7,9 @@ use Rattle.mips_isa.specs.declared.ZeroOp.TheVariants.{Bltz, Bgez, Blez, Bgtz}
 use Rattle.kmp_base.specs.Names.{named}
 use Rattle.asm_parse.specs.declared.bounds.Bounds.{Bounds}
 use Rattle.asm_parse.specs.declared.forms.Form.{Form}
-use Rattle.asm_parse.specs.declared.forms.Form.TheVariants.{Shift, ShiftBy, Alu, Signed, Unsigned, Lui, BranchTwo, BranchZero, Jump, JumpReg, JumpLink, Lw, Sw, Cas, Halt, Nop, Move, Branch, Li, La, Text, Data, Word, Space, Globl}
+use Rattle.asm_parse.specs.declared.forms.Form.TheVariants.{Shift, ShiftBy, Alu, Signed, Unsigned, Lui, BranchTwo, BranchZero, Jump}
+use Rattle.asm_parse.specs.declared.forms.Form.TheVariants.{JumpReg, JumpLink, Lw, Sw, Cas, Halt, Nop, Move, Branch, Li, La, Text, Data}
+use Rattle.asm_parse.specs.declared.forms.Form.TheVariants.{Word, Space, Globl}
 use Rattle.asm_parse.specs.declared.forms.Slot.TheVariants.{Rd, Rs, Rt}
 use Rattle.asm_parse.specs.declared.forms.Kind.{Kind}
 use Rattle.asm_parse.specs.declared.forms.Kind.TheVariants.{Register, Number, Place, Label, Address, Link}

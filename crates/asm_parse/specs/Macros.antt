@@ -4,7 +4,6 @@ use Rattle.std.specs.List.{AllByRecursion}
 use Rattle.mips_isa.specs.declared.Instr.TheVariants as instrs
 use Rattle.mips_isa.specs.declared.ShiftOp.TheVariants.{Sll}
 use Rattle.mips_isa.specs.declared.AluOp.TheVariants.{Addu}
-use Rattle.mips_isa.specs.declared.ImmOp.TheVariants.{Ori}
 use Rattle.asm_token.specs.declared.number.Number.{Number}
 use Rattle.asm_token.specs.declared.token.Token.{Token}
 use Rattle.asm_token.specs.declared.token.Token.TheVariants as tokens
@@ -15,9 +14,9 @@ use Rattle.asm_parse.specs.declared.statement.Body.TheVariants as bodies
 use Rattle.asm_parse.specs.declared.statement.Part.{Part}
 use Rattle.asm_parse.specs.declared.statement.Part.TheVariants as parts
 use Rattle.asm_parse.specs.declared.statement.Value.{Value}
+use Rattle.asm_parse.specs.declared.statement.Value.TheVariants as values
 use Rattle.asm_parse.specs.Forms.{is_part}
 use Rattle.asm_parse.specs.Lines.{line_of}
-use Rattle.asm_parse.specs.Statements.{upper_half, lower_half}
 use Rattle.asm_parse.specs.Printing.{register, signed_number, value_token, one, with_operands, label_tokens, IsWord}
 
 pub data Macro : Type 0 where
@@ -63,8 +62,7 @@ macro_bodies Nop = bodies.Plain (instrs.Shift Sll 0 0 0) ∷ []
 macro_bodies (Move rd rs) = bodies.Plain (instrs.Alu Addu rd rs 0) ∷ []
 macro_bodies (Branch label) = bodies.BranchTo (instrs.BranchTwo false 0 0 0) label ∷ []
 macro_bodies (BranchBy imm) = bodies.Plain (instrs.BranchTwo false 0 0 imm) ∷ []
-macro_bodies (Li rt n) =
-    bodies.Plain (instrs.Lui rt (upper_half (word_of n))) ∷ bodies.Plain (instrs.AluImm Ori rt rt (lower_half (word_of n))) ∷ []
+macro_bodies (Li rt n) = bodies.Load rt (values.Number (word_of n)) ∷ []
 macro_bodies (Lw rt rs) = bodies.Plain (instrs.Lw rt rs 0) ∷ []
 macro_bodies (Sw rt rs) = bodies.Plain (instrs.Sw rt rs 0) ∷ []
 macro_bodies (JumpLink rs) = bodies.Plain (instrs.JumpLink 31 rs) ∷ []

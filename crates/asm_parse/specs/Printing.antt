@@ -1,5 +1,6 @@
 -- How statements are written: the tokens of each, and the text that they are printed in.
-use Rattle.std.specs.Prelude.{◌≡◌, ℕ, ◌+◌, ◌-◌, ◌*◌, ◌^◌, ◌<◌, ◌≤◌, Bool, true, false, nat_lt, if◌then◌else◌, IsTrue, List, [], ◌∷◌, ◌++◌, map, Ok, codes}
+use Rattle.std.specs.Prelude.{◌≡◌, ℕ, ◌+◌, ◌-◌, ◌*◌, ◌^◌, ◌<◌, ◌≤◌, Bool, true, false, nat_lt, if◌then◌else◌, IsTrue, List, [], ◌∷◌, ◌++◌}
+use Rattle.std.specs.Prelude.{map, Ok, codes}
 use Rattle.std.specs.Fmt.{decimal}
 use Rattle.mips_isa.specs.declared.Instr.{Instr}
 use Rattle.mips_isa.specs.declared.Instr.TheVariants as instrs
@@ -82,7 +83,8 @@ number n = tokens.Number (record { negative = false; magnitude = n })
 
 -- sixteen bits as a number with a sign, in two's complement
 abbrev pub signed_of : ℕ → Number
-signed_of imm = if nat_lt imm 32768 then record { negative = false; magnitude = imm } else record { negative = true; magnitude = 65536 - imm }
+signed_of imm = if nat_lt imm 32768 then record { negative = false; magnitude = imm }
+    else record { negative = true; magnitude = 65536 - imm }
 
 abbrev pub signed_number : ℕ → Token
 signed_number imm = tokens.Number (signed_of imm)
@@ -118,15 +120,18 @@ with_operands name operands = tokens.Name name ∷ separated operands
 -- Statements.
 
 abbrev pub branch_tokens : Instr → Token → List Token
-branch_tokens (instrs.BranchTwo differ rs rt imm) place = with_operands (branch_name differ) (one (register rs) ∷ one (register rt) ∷ one place ∷ [])
+branch_tokens (instrs.BranchTwo differ rs rt imm) place =
+    with_operands (branch_name differ) (one (register rs) ∷ one (register rt) ∷ one place ∷ [])
 branch_tokens (instrs.BranchZero op rs imm) place = with_operands (zero_name op) (one (register rs) ∷ one place ∷ [])
 branch_tokens other place = []
 
 abbrev pub instr_tokens : Instr → List Token
 instr_tokens (instrs.Shift op rd rt sa) = with_operands (shift_name op) (one (register rd) ∷ one (register rt) ∷ one (number sa) ∷ [])
-instr_tokens (instrs.ShiftBy op rd rt rs) = with_operands (shift_by_name op) (one (register rd) ∷ one (register rt) ∷ one (register rs) ∷ [])
+instr_tokens (instrs.ShiftBy op rd rt rs) =
+    with_operands (shift_by_name op) (one (register rd) ∷ one (register rt) ∷ one (register rs) ∷ [])
 instr_tokens (instrs.Alu op rd rs rt) = with_operands (alu_name op) (one (register rd) ∷ one (register rs) ∷ one (register rt) ∷ [])
-instr_tokens (instrs.AluImm op rt rs imm) = with_operands (imm_name op) (one (register rt) ∷ one (register rs) ∷ one (immediate op imm) ∷ [])
+instr_tokens (instrs.AluImm op rt rs imm) =
+    with_operands (imm_name op) (one (register rt) ∷ one (register rs) ∷ one (immediate op imm) ∷ [])
 instr_tokens (instrs.Lui rt imm) = with_operands (codes "lui") (one (register rt) ∷ one (number imm) ∷ [])
 instr_tokens (instrs.BranchTwo differ rs rt imm) = branch_tokens (instrs.BranchTwo differ rs rt imm) (signed_number imm)
 instr_tokens (instrs.BranchZero op rs imm) = branch_tokens (instrs.BranchZero op rs imm) (signed_number imm)
@@ -195,7 +200,8 @@ WrittenStatementsAreRead =
 -- a line of labels alone, and a line of nothing
 abbrev pub WrittenLabelsAreRead : Type 0
 WrittenLabelsAreRead =
-    (part : Part) (labels : List (List ℕ)) (line : List ℕ) → Writes line (label_tokens labels) → line_of part line ≡ Ok (map Label labels, part)
+    (part : Part) (labels : List (List ℕ)) (line : List ℕ) → Writes line (label_tokens labels)
+    → line_of part line ≡ Ok (map Label labels, part)
 
 -- whether the labels that a statement names are names
 abbrev pub value_named : Value → Bool
@@ -214,7 +220,8 @@ body_named other = true
 abbrev pub AreWritable : Part → List Body → Type 0
 AreWritable part [] = Unit {0}
 AreWritable part (body ∷ bodies) =
-    IsProperBody body × HasNumbers body × IsTrue (body_named body) × IsTrue (body_stands body part) × AreWritable (part_moved part body) bodies
+    IsProperBody body × HasNumbers body × IsTrue (body_named body) × IsTrue (body_stands body part)
+    × AreWritable (part_moved part body) bodies
 
 -- A text of a line for each statement.
 abbrev pub printed_text : List Body → List ℕ
@@ -228,4 +235,5 @@ on_lines line (body ∷ bodies) = on_line line body ∷ on_lines (line + 1) bodi
 
 -- The statements of a text that is printed are those that were printed, each on its own line.
 abbrev pub PrintedStatementsAreRead : Type 0
-PrintedStatementsAreRead = (bodies : List Body) → AreWritable parts.Text bodies → statements_of (printed_text bodies) ≡ Ok (on_lines 1 bodies)
+PrintedStatementsAreRead = (bodies : List Body) → AreWritable parts.Text bodies
+    → statements_of (printed_text bodies) ≡ Ok (on_lines 1 bodies)

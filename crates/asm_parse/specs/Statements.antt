@@ -1,10 +1,10 @@
 -- What a statement is, by what stands behind its name.
-use Rattle.std.specs.Prelude.{◌≡◌, ℕ, ◌/◌, ◌%◌, ◌^◌, ◌<◌, Bool, false, List, [], ◌∷◌, Result, Ok, Err, All}
+use Rattle.std.specs.Prelude.{◌≡◌, ℕ, ◌/◌, ◌%◌, ◌^◌, ◌<◌, Bool, false, List, [], ◌∷◌, Option, Some, None, option_to_list, Result, Ok, Err}
+use Rattle.std.specs.Prelude.{All}
 use Rattle.mips_isa.specs.declared.Instr.{Instr}
 use Rattle.mips_isa.specs.declared.Instr.TheVariants as instrs
 use Rattle.mips_isa.specs.declared.ShiftOp.TheVariants.{Sll}
 use Rattle.mips_isa.specs.declared.AluOp.TheVariants.{Addu}
-use Rattle.mips_isa.specs.declared.ImmOp.TheVariants.{Ori}
 use Rattle.mips_isa.specs.Words.{IsProper}
 use Rattle.asm_token.specs.declared.fault.AsmCause.{AsmCause}
 use Rattle.asm_token.specs.declared.fault.AsmCause.TheVariants.{BadOperand}
@@ -32,10 +32,7 @@ abbrev pub number_of : Value → ℕ
 number_of (values.Number n) = n
 number_of (values.Of label) = 0
 
--- the two halves of a word
-abbrev pub upper_half : ℕ → ℕ
-upper_half n = n / 2 ^ 16 % 2 ^ 16
-
+-- the lower half of a word
 abbrev pub lower_half : ℕ → ℕ
 lower_half n = n % 2 ^ 16
 
@@ -49,47 +46,46 @@ abbrev pub jump : Bool → Value → Body
 jump link (values.Number n) = Plain (instrs.Jump link (n / 4 % 2 ^ 26))
 jump link (values.Of label) = JumpTo link label
 
--- What a statement is, by its operands.
-unfoldable pub bodies_of : Form → Operands → List Body
-bodies_of (forms.Shift op) o = Plain (instrs.Shift op o.rd o.rt (number_of o.value % 32)) ∷ []
-bodies_of (forms.ShiftBy op) o = Plain (instrs.ShiftBy op o.rd o.rt o.rs) ∷ []
-bodies_of (forms.Alu op) o = Plain (instrs.Alu op o.rd o.rs o.rt) ∷ []
-bodies_of (forms.Signed op) o = Plain (instrs.AluImm op o.rt o.rs (lower_half (number_of o.value))) ∷ []
-bodies_of (forms.Unsigned op) o = Plain (instrs.AluImm op o.rt o.rs (lower_half (number_of o.value))) ∷ []
-bodies_of forms.Lui o = Plain (instrs.Lui o.rt (lower_half (number_of o.value))) ∷ []
-bodies_of (forms.BranchTwo differ) o = branch (instrs.BranchTwo differ o.rs o.rt (lower_half (number_of o.value))) o.value ∷ []
-bodies_of (forms.BranchZero op) o = branch (instrs.BranchZero op o.rs (lower_half (number_of o.value))) o.value ∷ []
-bodies_of (forms.Jump link) o = jump link o.value ∷ []
-bodies_of forms.JumpReg o = Plain (instrs.JumpReg o.rs) ∷ []
-bodies_of forms.JumpLink o = Plain (instrs.JumpLink o.rd o.rs) ∷ []
-bodies_of forms.Lw o = Plain (instrs.Lw o.rt o.rs (lower_half (number_of o.value))) ∷ []
-bodies_of forms.Sw o = Plain (instrs.Sw o.rt o.rs (lower_half (number_of o.value))) ∷ []
-bodies_of forms.Cas o = Plain (instrs.Cas o.rd o.rs o.rt) ∷ []
-bodies_of forms.Halt o = Plain instrs.Halt ∷ []
-bodies_of forms.Nop o = Plain (instrs.Shift Sll 0 0 0) ∷ []
-bodies_of forms.Move o = Plain (instrs.Alu Addu o.rd o.rs 0) ∷ []
-bodies_of forms.Branch o = branch (instrs.BranchTwo false 0 0 (lower_half (number_of o.value))) o.value ∷ []
-bodies_of forms.Li o =
-    Plain (instrs.Lui o.rt (upper_half (number_of o.value))) ∷ Plain (instrs.AluImm Ori o.rt o.rt (lower_half (number_of o.value))) ∷ []
-bodies_of forms.La o = Load o.rt o.value ∷ []
-bodies_of forms.Text o = Text ∷ []
-bodies_of forms.Data o = Data ∷ []
-bodies_of forms.Word o = []
-bodies_of forms.Space o = []
-bodies_of forms.Globl o = []
+-- What a statement is, by its operands. `.globl` is nothing.
+unfoldable pub body_of : Form → Operands → Option Body
+body_of (forms.Shift op) o = Some (Plain (instrs.Shift op o.rd o.rt (number_of o.value % 32)))
+body_of (forms.ShiftBy op) o = Some (Plain (instrs.ShiftBy op o.rd o.rt o.rs))
+body_of (forms.Alu op) o = Some (Plain (instrs.Alu op o.rd o.rs o.rt))
+body_of (forms.Signed op) o = Some (Plain (instrs.AluImm op o.rt o.rs (lower_half (number_of o.value))))
+body_of (forms.Unsigned op) o = Some (Plain (instrs.AluImm op o.rt o.rs (lower_half (number_of o.value))))
+body_of forms.Lui o = Some (Plain (instrs.Lui o.rt (lower_half (number_of o.value))))
+body_of (forms.BranchTwo differ) o = Some (branch (instrs.BranchTwo differ o.rs o.rt (lower_half (number_of o.value))) o.value)
+body_of (forms.BranchZero op) o = Some (branch (instrs.BranchZero op o.rs (lower_half (number_of o.value))) o.value)
+body_of (forms.Jump link) o = Some (jump link o.value)
+body_of forms.JumpReg o = Some (Plain (instrs.JumpReg o.rs))
+body_of forms.JumpLink o = Some (Plain (instrs.JumpLink o.rd o.rs))
+body_of forms.Lw o = Some (Plain (instrs.Lw o.rt o.rs (lower_half (number_of o.value))))
+body_of forms.Sw o = Some (Plain (instrs.Sw o.rt o.rs (lower_half (number_of o.value))))
+body_of forms.Cas o = Some (Plain (instrs.Cas o.rd o.rs o.rt))
+body_of forms.Halt o = Some (Plain instrs.Halt)
+body_of forms.Nop o = Some (Plain (instrs.Shift Sll 0 0 0))
+body_of forms.Move o = Some (Plain (instrs.Alu Addu o.rd o.rs 0))
+body_of forms.Branch o = Some (branch (instrs.BranchTwo false 0 0 (lower_half (number_of o.value))) o.value)
+body_of forms.Li o = Some (Load o.rt o.value)
+body_of forms.La o = Some (Load o.rt o.value)
+body_of forms.Text o = Some Text
+body_of forms.Data o = Some Data
+body_of forms.Word o = None
+body_of forms.Space o = None
+body_of forms.Globl o = None
 
 -- a number alone
 abbrev pub lone_number_in : Bounds → List Token → Result Number AsmCause
 lone_number_in bounds ts = number_in bounds ts >>= λ n. end_in n.0 n.1
 
 -- what follows `.data`: nothing, or where a segment starts
-abbrev pub data_in : List Token → Result (List Body) AsmCause
-data_in [] = Ok (Data ∷ [])
-data_in (t ∷ ts) = lone_number_in address (t ∷ ts) >>= λ n. Ok (DataAt (word_of n) ∷ [])
+abbrev pub data_in : List Token → Result Body AsmCause
+data_in [] = Ok Data
+data_in (t ∷ ts) = lone_number_in address (t ∷ ts) >>= λ n. Ok (DataAt (word_of n))
 
 -- what follows `.space`: a number of bytes
-abbrev pub space_in : List Token → Result (List Body) AsmCause
-space_in ts = lone_number_in space ts >>= λ n. Ok (Space (word_of n) ∷ [])
+abbrev pub space_in : List Token → Result Body AsmCause
+space_in ts = lone_number_in space ts >>= λ n. Ok (Space (word_of n))
 
 -- what follows the first operand of `.word`: values, each behind a comma
 unfoldable pub more_words_in : List Token → Result (List Body) AsmCause
@@ -110,10 +106,10 @@ words_in (t ∷ ts) = do
 
 -- What a statement is, by the tokens behind its name.
 unfoldable pub statement_in : Form → List Token → Result (List Body) AsmCause
-statement_in forms.Data ts = data_in ts
+statement_in forms.Data ts = data_in ts >>= λ body. Ok (body ∷ [])
 statement_in forms.Word ts = words_in ts
-statement_in forms.Space ts = space_in ts
-statement_in form ts = operands_in (kinds_of form) ts >>= λ operands. Ok (bodies_of form operands)
+statement_in forms.Space ts = space_in ts >>= λ body. Ok (body ∷ [])
+statement_in form ts = operands_in (kinds_of form) ts >>= λ operands. Ok (option_to_list (body_of form operands))
 
 -- a branch, which has an immediate for the distance of its label
 abbrev pub IsBranch : Instr → Type 0

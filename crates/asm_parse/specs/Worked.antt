@@ -2,7 +2,7 @@
 use Rattle.std.specs.Prelude.{◌≡◌, false, [], ◌∷◌, Ok, Err, codes}
 use Rattle.mips_isa.specs.declared.Instr.TheVariants as instrs
 use Rattle.mips_isa.specs.declared.ShiftOp.TheVariants.{Sra}
-use Rattle.mips_isa.specs.declared.ImmOp.TheVariants.{Addiu, Ori}
+use Rattle.mips_isa.specs.declared.ImmOp.TheVariants.{Addiu}
 use Rattle.asm_token.specs.declared.fault.AsmCause.TheVariants.{BadByte, UnknownName, BadOperand, Range}
 use Rattle.asm_parse.specs.declared.statement.Body.TheVariants as bodies
 use Rattle.asm_parse.specs.declared.statement.Part.TheVariants.{Text, Data}
@@ -17,9 +17,7 @@ pub record WorkedLinesAreRead : Type 0 where
   pub no_blanks : line_of Text (codes "sra$3,$4,31") ≡ Ok (bodies.Plain (instrs.Shift Sra 3 4 31) ∷ [], Text)
   pub comment_alone : line_of Text (codes "# add $1, $2, $3") ≡ Ok ([], Text)
   pub comment_at_once : line_of Text (codes "halt#") ≡ Ok (bodies.Plain instrs.Halt ∷ [], Text)
-  pub halves :
-      line_of Text (codes "li $2, 0x12345678")
-      ≡ Ok (bodies.Plain (instrs.Lui 2 0x1234) ∷ bodies.Plain (instrs.AluImm Ori 2 2 0x5678) ∷ [], Text)
+  pub load : line_of Text (codes "li $2, 0x12345678") ≡ Ok (bodies.Load 2 (Number 0x12345678) ∷ [], Text)
   pub words :
       line_of Data (codes "x: .word 1,-1, x")
       ≡ Ok (bodies.Label (codes "x") ∷ bodies.Word (Number 1) ∷ bodies.Word (Number 0xffffffff) ∷ bodies.Word (Of (codes "x")) ∷ [], Data)
@@ -33,5 +31,6 @@ pub record WorkedLinesAreRead : Type 0 where
   pub another_part : line_of Text (codes ".word 1") ≡ Err BadOperand
   pub lines :
       statements_of (codes "b end\n\nend: halt")
-      ≡ Ok (on_line 1 (bodies.BranchTo (instrs.BranchTwo false 0 0 0) (codes "end")) ∷ on_line 3 (bodies.Label (codes "end")) ∷ on_line 3 (bodies.Plain instrs.Halt) ∷ [])
+      ≡ Ok (on_line 1 (bodies.BranchTo (instrs.BranchTwo false 0 0 0) (codes "end")) ∷ on_line 3 (bodies.Label (codes "end"))
+      ∷ on_line 3 (bodies.Plain instrs.Halt) ∷ [])
   pub first_fault : statements_of (codes "halt\nhalt $1\nstop") ≡ Err (BadOperand, 2)

@@ -1,19 +1,19 @@
 //! What statements are, by what stands behind their names.
-ghost use Rattle.std.specs.Prelude.{◌≡◌, ◌<◌, [], ◌∷◌, IfOk, IsTrue, All};
+ghost use Rattle.std.specs.Prelude.{◌≡◌, ◌<◌, [], ◌∷◌, option_to_list, IfOk, IfSome, IsTrue, All};
 ghost use Rattle.mips_isa.specs.Words.{IsProper};
-ghost use Rattle.asm_token.specs.Faults.{Gives};
+ghost use Rattle.kmp_base.specs.Gives.{Gives};
 ghost use Rattle.asm_parse.specs.Bounds.{is_within};
 ghost use Rattle.asm_parse.specs.Forms.{kinds_of};
 ghost use Rattle.asm_parse.specs.Operands.{operands_in, AreRegisters};
-ghost use Rattle.asm_parse.specs.Statements.{number_of, upper_half, lower_half, branch, jump, bodies_of, lone_number_in, data_in, space_in, words_in, statement_in, IsBranch, IsProperBody};
+ghost use Rattle.asm_parse.specs.Statements.{number_of, lower_half, branch, jump, body_of, lone_number_in, data_in, space_in, words_in, statement_in, IsBranch, IsProperBody};
 
 use crate::bounds::{ADDRESS, Bounds, SPACE, WORD};
 use crate::forms::Form;
 use crate::operands::{Operands, comma_in, end_in, number_in, operands_in, place_in};
 use crate::statement::{Body, Value};
-use asm_token::{LineFault, Number, Token};
+use asm_token::{AsmCause, LineFault, Number, Token};
 use mips_isa::{AluOp, ImmOp, Instr, ShiftOp};
-use std::alloc::Global;
+use std::alloc::{AllocError, Global};
 
 const NOP: Instr = Instr::Shift {
     op: ShiftOp::Sll,
@@ -22,7 +22,7 @@ const NOP: Instr = Instr::Shift {
     sa: 0,
 };
 
-impl Value {
+impl Value<'_> {
     /// The number. A label has none, and gives 0.
     fn number(&self) -> u32
         ensures value { result ≡ number_of self.now }
@@ -32,12 +32,6 @@ impl Value {
             Value::Of(_) => 0,
         }
     }
-}
-
-fn upper_half(number: u32) -> u16
-    ensures value { result ≡ upper_half number }
-{
-    (number >> 16) as u16
 }
 
 fn lower_half(number: u32) -> u16
@@ -58,10 +52,10 @@ fn branch_two(differ: bool, rs: u8, rt: u8, imm: u16) -> Instr
 }
 
 /// A branch to a label, or by the immediate that it holds.
-fn branch(instr: Instr, value: Value) -> Body
+fn branch<'a>(instr: Instr, value: Value<'a>) -> Body<'a>
     requires proper { IsProper instr }
     requires branch { IsBranch instr }
-    ensures value { result ≡ branch instr value }
+    ensures value { result ≡ branch instr value.entry }
     ensures proper { IsProperBody result }
 {
     match value {
@@ -71,8 +65,8 @@ fn branch(instr: Instr, value: Value) -> Body
 }
 
 /// A jump to a label, or to a byte address.
-fn jump(link: bool, value: Value) -> Body
-    ensures value { result ≡ jump link value }
+fn jump<'a>(link: bool, value: Value<'a>) -> Body<'a>
+    ensures value { result ≡ jump link value.entry }
     ensures proper { IsProperBody result }
 {
     match value {
@@ -85,7 +79,7 @@ fn jump(link: bool, value: Value) -> Body
 }
 
 /// One register's word into another.
-fn move_register(rd: u8, rs: u8) -> Body
+fn move_register(rd: u8, rs: u8) -> Body<'static>
     requires rd { rd < 32 }
     requires rs { rs < 32 }
     ensures value { result ≡ Body.Plain (Instr.Alu AluOp.Addu rd rs 0) }
@@ -99,42 +93,25 @@ fn move_register(rd: u8, rs: u8) -> Body
     })
 }
 
-fn one(alloc: Global, body: Body) -> Result<Vec<Body>, LineFault>
-    requires proper { IsProperBody body }
-    ensures value { Gives (λ v. v.items) result (Ok (body ∷ [])) }
+/// None or one, as a list.
+fn none_or_one<'a>(alloc: Global, body: Option<Body<'a>>) -> Result<Vec<Body<'a>>, AllocError>
+    requires proper { IfSome body IsProperBody }
+    ensures value { IfOk result (λ v. v.items ≡ option_to_list body.entry) }
     ensures proper { IfOk result (λ v. All IsProperBody v.items) }
 {
     let mut bodies = Vec::new(alloc);
-    bodies.push(body)?;
+    if let Some(body) = body {
+        bodies.push(body)?;
+    }
     Ok(bodies)
 }
 
-/// A number into a register, its upper half first.
-fn load_number(alloc: Global, rt: u8, number: u32) -> Result<Vec<Body>, LineFault>
-    requires rt { rt < 32 }
-    ensures value { Gives (λ v. v.items) result (Ok (Body.Plain (Instr.Lui rt (upper_half number)) ∷ Body.Plain (Instr.AluImm ImmOp.Ori rt rt (lower_half number)) ∷ [])) }
-    ensures proper { IfOk result (λ v. All IsProperBody v.items) }
-{
-    let mut bodies = Vec::new(alloc);
-    bodies.push(Body::Plain(Instr::Lui {
-        rt,
-        imm: upper_half(number),
-    }))?;
-    bodies.push(Body::Plain(Instr::AluImm {
-        op: ImmOp::Ori,
-        rt,
-        rs: rt,
-        imm: lower_half(number),
-    }))?;
-    Ok(bodies)
-}
-
-/// What a statement is, by its operands.
-#[tactic(auto, unfolding(crate::specs::Statements::bodies_of))]
-fn bodies_of(alloc: Global, form: Form, operands: Operands) -> Result<Vec<Body>, LineFault>
+/// What a statement is, by its operands. `.globl` is nothing.
+#[tactic(auto, unfolding(crate::specs::Statements::body_of))]
+fn body_of<'a>(form: Form, operands: Operands<'a>) -> Option<Body<'a>>
     requires registers { AreRegisters operands }
-    ensures value { Gives (λ v. v.items) result (Ok (bodies_of form operands)) }
-    ensures proper { IfOk result (λ v. All IsProperBody v.items) }
+    ensures value { result ≡ body_of form operands.entry }
+    ensures proper { IfSome result IsProperBody }
 {
     let number = operands.value.number();
     let imm = lower_half(number);
@@ -158,18 +135,17 @@ fn bodies_of(alloc: Global, form: Form, operands: Operands) -> Result<Vec<Body>,
         Form::Nop => Body::Plain(NOP),
         Form::Move => move_register(rd, rs),
         Form::Branch => branch(branch_two(false, 0, 0, imm), value),
-        Form::Li => return load_number(alloc, rt, number),
-        Form::La => Body::Load(rt, value),
+        Form::Li | Form::La => Body::Load(rt, value),
         Form::Text => Body::Text,
         Form::Data => Body::Data,
-        Form::Word | Form::Space | Form::Globl => return Ok(Vec::new(alloc)),
+        Form::Word | Form::Space | Form::Globl => return None,
     };
-    one(alloc, body)
+    Some(body)
 }
 
 /// A number alone.
-fn lone_number_in(bounds: Bounds, tokens: &[Token]) -> Result<Number, LineFault>
-    ensures value { Gives (λ n. n) result (lone_number_in bounds tokens.now) }
+fn lone_number_in(bounds: Bounds, tokens: &[Token<'_>]) -> Result<Number, AsmCause>
+    ensures value { result ≡ lone_number_in bounds tokens.now }
     ensures within { IfOk result (λ n. IsTrue (is_within bounds n)) }
 {
     let (number, rest) = number_in(bounds, tokens)?;
@@ -177,38 +153,37 @@ fn lone_number_in(bounds: Bounds, tokens: &[Token]) -> Result<Number, LineFault>
 }
 
 /// What follows `.data`: nothing, or where a segment starts.
-fn data_in(alloc: Global, tokens: &[Token]) -> Result<Vec<Body>, LineFault>
-    ensures value { Gives (λ v. v.items) result (data_in tokens.now) }
-    ensures proper { IfOk result (λ v. All IsProperBody v.items) }
+fn data_in(tokens: &[Token<'_>]) -> Result<Body<'static>, AsmCause>
+    ensures value { result ≡ data_in tokens.now }
+    ensures proper { IfOk result IsProperBody }
 {
-    let body = if tokens.is_empty() {
-        Body::Data
+    if tokens.is_empty() {
+        Ok(Body::Data)
     } else {
-        Body::DataAt(lone_number_in(ADDRESS, tokens)?.word())
-    };
-    one(alloc, body)
+        Ok(Body::DataAt(lone_number_in(ADDRESS, tokens)?.word()))
+    }
 }
 
 /// What follows `.space`: a number of bytes.
-fn space_in(alloc: Global, tokens: &[Token]) -> Result<Vec<Body>, LineFault>
-    ensures value { Gives (λ v. v.items) result (space_in tokens.now) }
-    ensures proper { IfOk result (λ v. All IsProperBody v.items) }
+fn space_in(tokens: &[Token<'_>]) -> Result<Body<'static>, AsmCause>
+    ensures value { result ≡ space_in tokens.now }
+    ensures proper { IfOk result IsProperBody }
 {
     let bytes = lone_number_in(SPACE, tokens)?;
-    one(alloc, Body::Space(bytes.word()))
+    Ok(Body::Space(bytes.word()))
 }
 
 /// What follows `.word`: one value or more, a comma between each two.
-fn words_in(alloc: Global, tokens: &[Token]) -> Result<Vec<Body>, LineFault>
+fn words_in<'a>(alloc: Global, tokens: &[Token<'a>]) -> Result<Vec<Body<'a>>, LineFault>
     ensures value { Gives (λ v. v.items) result (words_in tokens.now) }
     ensures proper { IfOk result (λ v. All IsProperBody v.items) }
 {
-    let (first, others) = place_in(alloc, WORD, tokens)?;
+    let (first, others) = place_in(WORD, tokens)?;
     let mut words = Vec::new(alloc);
     words.push(Body::Word(first))?;
     let mut rest = others;
     'words: while !rest.is_empty() {
-        let (value, behind) = place_in(alloc, WORD, comma_in(rest)?)?;
+        let (value, behind) = place_in(WORD, comma_in(rest)?)?;
         words.push(Body::Word(value))?;
         rest = behind;
     }
@@ -216,26 +191,30 @@ fn words_in(alloc: Global, tokens: &[Token]) -> Result<Vec<Body>, LineFault>
 }
 
 /// The operands of a statement.
-fn operands_of(alloc: Global, form: Form, tokens: &[Token]) -> Result<Operands, LineFault>
-    ensures value { Gives (λ o. o) result (operands_in (kinds_of form) tokens.now) }
+fn operands_of<'a>(form: Form, tokens: &[Token<'a>]) -> Result<Operands<'a>, AsmCause>
+    ensures value { result ≡ operands_in (kinds_of form) tokens.now }
     ensures registers { IfOk result (λ o. AreRegisters o) }
 {
-    operands_in(alloc, form.kinds(), tokens)
+    operands_in(form.kinds(), tokens)
 }
 
 /// What a statement is, by the tokens behind its name.
 #[tactic(auto, unfolding(crate::specs::Statements::statement_in))]
-pub fn statement_in(alloc: Global, form: Form, tokens: &[Token]) -> Result<Vec<Body>, LineFault>
+pub fn statement_in<'a>(
+    alloc: Global,
+    form: Form,
+    tokens: &[Token<'a>],
+) -> Result<Vec<Body<'a>>, LineFault>
     ensures value { Gives (λ v. v.items) result (statement_in form tokens.now) }
     ensures proper { IfOk result (λ v. All IsProperBody v.items) }
 {
     match form {
-        Form::Data => data_in(alloc, tokens),
+        Form::Data => Ok(none_or_one(alloc, Some(data_in(tokens)?))?),
         Form::Word => words_in(alloc, tokens),
-        Form::Space => space_in(alloc, tokens),
+        Form::Space => Ok(none_or_one(alloc, Some(space_in(tokens)?))?),
         _ => {
-            let operands = operands_of(alloc, form, tokens)?;
-            bodies_of(alloc, form, operands)
+            let operands = operands_of(form, tokens)?;
+            Ok(none_or_one(alloc, body_of(form, operands))?)
         }
     }
 }

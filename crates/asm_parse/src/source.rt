@@ -7,7 +7,8 @@ ghost use Rattle.asm_parse.specs.Statements.{IsProperBody, AreProper};
 
 use crate::lines::line_of;
 use crate::statement::{Body, Part, Statement};
-use asm_token::{AsmFault, LineFault};
+use asm_token::AsmFault;
+use kmp_base::Fault;
 use std::alloc::{AllocError, Global};
 
 fn is_within_line(byte: u8) -> bool
@@ -38,8 +39,12 @@ fn split_line(text: &[u8]) -> (&[u8], &[u8])
 }
 
 /// Puts a line's statements behind the others.
-fn push_all(statements: &mut Vec<Statement>, line: u32, bodies: Vec<Body>) -> Result<(), AllocError>
-    ensures pushed { OnOk result (statements.new.items ≡ statements.old.items ++ map (on_line line) bodies.items) }
+fn push_all<'a>(
+    statements: &mut Vec<Statement<'a>>,
+    line: u32,
+    bodies: Vec<Body<'a>>,
+) -> Result<(), AllocError>
+    ensures pushed { OnOk result (statements.new.items ≡ statements.old.items ++ map (on_line line) bodies.entry.items) }
 {
     for body in bodies {
         statements.push(Statement { line, body })?;
@@ -48,12 +53,12 @@ fn push_all(statements: &mut Vec<Statement>, line: u32, bodies: Vec<Body>) -> Re
 }
 
 /// Adds the statements of a line, and gives the part that is in force behind it.
-fn add_line(
+fn add_line<'a>(
     alloc: Global,
-    statements: &mut Vec<Statement>,
+    statements: &mut Vec<Statement<'a>>,
     number: u32,
     part: Part,
-    line: &[u8],
+    line: &'a [u8],
 ) -> Result<Part, AsmFault>
     requires proper { AreProper statements.old.items }
     ensures ok { IfOk result (λ behind. (here : List Body) × (line_of part line.now ≡ Ok (here, behind)) × (statements.new.items ≡ statements.old.items ++ map (on_line number) here)) }
@@ -65,8 +70,8 @@ fn add_line(
             push_all(statements, number, bodies)?;
             Ok(behind)
         }
-        Err(LineFault::Memory) => Err(AsmFault::Memory),
-        Err(LineFault::Cause(cause)) => Err(AsmFault::At(cause, number)),
+        Err(Fault::Memory) => Err(AsmFault::Memory),
+        Err(Fault::Cause(cause)) => Err(AsmFault::At(cause, number)),
     }
 }
 
@@ -86,7 +91,7 @@ fn add_line(
 ///   data part;
 /// - the operands: [`AsmCause::UnknownName`] for a register, [`AsmCause::Range`] for a number that is out of its bounds or
 ///   no multiple of 4 where one is wanted, and [`AsmCause::BadOperand`] for any token but one of the kind that is wanted.
-pub fn parse(alloc: Global, text: &[u8]) -> Result<Vec<Statement>, AsmFault>
+pub fn parse(alloc: Global, text: &[u8]) -> Result<Vec<Statement<'_>>, AsmFault>
     requires size { length text.now ≤ 268435456 }
     ensures meaning { Answers (λ v. v.items) result (statements_of text.now) }
     ensures few { IfOk result (λ statements. length statements.items ≤ length text.now) }

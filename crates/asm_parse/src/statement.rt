@@ -14,16 +14,16 @@ pub enum Part {
 
 /// A word, or the label whose address it is.
 #[derive(Drop)]
-pub enum Value {
+pub enum Value<'a> {
     Number(u32),
-    Of(Name),
+    Of(Name<'a>),
 }
 
-/// What a statement is. A line has one for each label, one for each operand of `.word`, two for `li`, none for `.globl`,
-/// and one for each other statement.
+/// What a statement is. A line has one for each label, one for each operand of `.word`, none for `.globl`, and one for each
+/// other statement.
 #[derive(Drop)]
-pub enum Body {
-    Label(Name),
+pub enum Body<'a> {
+    Label(Name<'a>),
     /// `.text`: the text part is in force.
     Text,
     /// `.data` without an address: the data part is in force, and goes on in the last segment.
@@ -31,23 +31,23 @@ pub enum Body {
     /// `.data` with a byte address, at which a segment begins.
     DataAt(u32),
     /// A word of data.
-    Word(Value),
+    Word(Value<'a>),
     /// A number of bytes of data, each 0.
     Space(u32),
     /// An instruction that names no label.
     Plain(Instr),
     /// A branch, without its immediate, to a label.
-    BranchTo(Instr, Name),
+    BranchTo(Instr, Name<'a>),
     /// A jump to a label, and whether it links.
-    JumpTo(bool, Name),
-    /// Two instructions that load a value into a register.
-    Load(u8, Value),
+    JumpTo(bool, Name<'a>),
+    /// Two instructions that load a value into a register, its upper half first: `li`, or `la`.
+    Load(u8, Value<'a>),
 }
 
 /// A statement of a source.
 #[derive(Drop)]
-pub struct Statement {
+pub struct Statement<'a> {
     /// The number of its line. The first line of a source has the number 1.
     pub line: u32,
-    pub body: Body,
+    pub body: Body<'a>,
 }

@@ -14,7 +14,8 @@ grows radix high (d ∷ ds) positive =
     omega (arith, more, product)
 
 -- Where the whole number fits, so does each front of its digits.
-pub front_fits : (radix high i : ℕ) (s : List ℕ) (total : ℕ) → 0 < radix → i < length s → digits_value_after radix high (drop i s) ≡ total → total < 2 ^ 32
+pub front_fits : (radix high i : ℕ) (s : List ℕ) (total : ℕ) → 0 < radix → i < length s → digits_value_after radix high (drop i s) ≡ total
+    → total < 2 ^ 32
     → high * radix + digit_value (get_or s i 0) < 2 ^ 32
 front_fits radix high i s total positive lt e fits =
     let cells = drop-cons s i 0 in

@@ -1,5 +1,6 @@
 -- Lines that write tokens.
-use Rattle.std.specs.Prelude.{◌≡◌, ℕ, ◌-◌, ◌^◌, ◌==◌, ◌&&◌, ◌||◌, Bool, true, false, not, nat_le, if◌then◌else◌, IsTrue, List, [], ◌∷◌, ◌++◌, length, map, Ok, codes, slice_index}
+use Rattle.std.specs.Prelude.{◌≡◌, ℕ, ◌-◌, ◌^◌, ◌==◌, ◌&&◌, ◌||◌, Bool, true, false, not, nat_le, if◌then◌else◌, IsTrue, List, [], ◌∷◌}
+use Rattle.std.specs.Prelude.{◌++◌, length, map, Ok, codes, slice_index}
 use Rattle.std.specs.Fmt.{decimal}
 use Rattle.std.specs.List.{list_all}
 use Rattle.std.specs.Char.{is_ascii_alphanumeric}
@@ -51,7 +52,8 @@ spaced_text (t ∷ ts) = token_text t.0 ++ (t.1 ++ spaced_text ts)
 abbrev pub AreApart : List (Token × List ℕ) → Type 0
 AreApart [] = Unit {0}
 AreApart (t ∷ ts) =
-    IsTrue (can_be_written t.0) × IsTrue (list_all is_blank t.1) × IsTrue (ends_before t.0 (slice_index (t.1 ++ spaced_text ts) 0)) × AreApart ts
+    IsTrue (can_be_written t.0) × IsTrue (list_all is_blank t.1) × IsTrue (ends_before t.0 (slice_index (t.1 ++ spaced_text ts) 0))
+    × AreApart ts
 
 -- nothing, or `#` and any bytes
 abbrev pub IsComment : List ℕ → Type 0

@@ -9,7 +9,8 @@ pub record WorkedTokensAreRead : Type 0 where
   pub names : tokens_of (codes "_A.z9 .Z_0") ≡ Ok (Name (codes "_A.z9") ∷ Name (codes ".Z_0") ∷ [])
   pub registers : tokens_of (codes "$t0$31") ≡ Ok (Register (codes "t0") ∷ Register (codes "31") ∷ [])
   pub marks : tokens_of (codes ",:()") ≡ Ok (Comma ∷ Colon ∷ Open ∷ Close ∷ [])
-  pub hexadecimal : tokens_of (codes "0xaF 0x0") ≡ Ok (Number (record { negative = false; magnitude = 175 }) ∷ Number (record { negative = false; magnitude = 0 }) ∷ [])
+  pub hexadecimal : tokens_of (codes "0xaF 0x0")
+      ≡ Ok (Number (record { negative = false; magnitude = 175 }) ∷ Number (record { negative = false; magnitude = 0 }) ∷ [])
   pub leading_zeros : tokens_of (codes "010") ≡ Ok (Number (record { negative = false; magnitude = 10 }) ∷ [])
   pub greatest : tokens_of (codes "4294967295") ≡ Ok (Number (record { negative = false; magnitude = 2 ^ 32 - 1 }) ∷ [])
   pub too_great : tokens_of (codes "4294967296") ≡ Err Range

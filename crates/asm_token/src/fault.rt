@@ -1,9 +1,10 @@
 //! What is wrong with a source.
 
 ghost use Rattle.std.specs.Prelude.{◌≡◌};
-ghost use Rattle.asm_token.specs.declared.fault.LineFault.TheVariants.{Memory};
+ghost use Rattle.kmp_base.specs.declared.fault.Fault.TheVariants.{Cause};
 ghost use Rattle.asm_token.specs.declared.fault.AsmFault.TheVariants as errors;
 
+use kmp_base::Fault;
 use std::alloc::{AllocError, AllocFailed};
 use std::error::Error;
 use std::fmt::{self, Display, Formatter, Write};
@@ -22,19 +23,34 @@ pub enum AsmCause {
 }
 
 impl AsmCause {
-    /// What is wrong, in words.
+    /// What is wrong, and what to do.
     fn text(self) -> &'static str {
         match self {
-            AsmCause::BadByte => "a byte begins no token, or a token ends wrongly",
-            AsmCause::UnknownName => "no statement or no register has this name",
-            AsmCause::BadOperand => {
-                "another operand, or another part of the program, is wanted here"
+            AsmCause::BadByte => {
+                "a byte begins no token, or a token is cut wrongly; \
+                 look for a stray mark, or a blank that is missing"
             }
-            AsmCause::Range => "a number or an address is out of its bounds",
-            AsmCause::LabelTwice => "the label stands twice",
-            AsmCause::LabelMissing => "the label stands nowhere",
-            AsmCause::NoCode => "there is no instruction",
-            AsmCause::TooMuch => "a word has no room",
+            AsmCause::UnknownName => {
+                "no statement and no register has this name; look it up in docs/MACHINE.md"
+            }
+            AsmCause::BadOperand => {
+                "another operand is wanted, one is missing or one too many, or the statement \
+                 stands in the other part; compare with its operands in docs/MACHINE.md, or write \
+                 .text or .data before it"
+            }
+            AsmCause::Range => {
+                "a number is out of its bounds or no multiple of 4, a segment begins too low or \
+                 too high, or a label is too far; the bounds stand in docs/MACHINE.md"
+            }
+            AsmCause::LabelTwice => "the label stands before too; rename one of them",
+            AsmCause::LabelMissing => {
+                "no line has the label that is named here; write it, or mend its spelling"
+            }
+            AsmCause::NoCode => "the source has no instruction; write one",
+            AsmCause::TooMuch => {
+                "the instruction is one of more than 65,536 words, or a word lies past the memory; \
+                 shorten the program, move its data, or enlarge the memory"
+            }
         }
     }
 }
@@ -58,25 +74,13 @@ pub enum AsmFault {
 }
 
 /// What is wrong with a line whose number isn't known.
-#[derive(Clone, Copy)]
-pub enum LineFault {
-    Memory,
-    Cause(AsmCause),
-}
+pub type LineFault = Fault<AsmCause>;
 
-impl From<AllocError> for LineFault {
-    ghost from_gives = { λ _ e. e ≡ Memory };
+impl From<AsmCause> for LineFault {
+    ghost from_gives = { λ cause e. e ≡ Cause cause };
 
-    fn from(_error: AllocError) -> LineFault {
-        LineFault::Memory
-    }
-}
-
-impl<T: Drop> From<AllocFailed<T>> for LineFault {
-    ghost from_gives = { λ _ e. e ≡ Memory };
-
-    fn from(_error: AllocFailed<T>) -> LineFault {
-        LineFault::Memory
+    fn from(cause: AsmCause) -> LineFault {
+        Fault::Cause(cause)
     }
 }
 

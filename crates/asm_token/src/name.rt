@@ -1,44 +1,41 @@
 //! Names, and the registers' names.
 
-ghost use Rattle.std.specs.Prelude.{◌≡◌, IfOk};
+ghost use Rattle.std.specs.Prelude.{◌≡◌};
 
-use std::alloc::{AllocError, Global};
 use std::marker::Model;
 
-/// A name, as its bytes.
+/// A name, as the bytes of the source that spell it.
 #[derive(Drop)]
-pub struct Name {
-    pub bytes: Vec<u8>,
+pub struct Name<'a> {
+    pub bytes: &'a [u8],
 }
 
-impl Model for Name {
+impl<'a> Model for Name<'a> {
     ghost use Rattle.std.specs.Prelude.{List, ℕ};
 
     ghost Value = { List ℕ };
 
-    ghost view = { λ n. n.bytes.items };
+    ghost view = { λ n. n.bytes.now };
 }
 
-impl Name {
+impl<'a> Name<'a> {
     /// A name of these bytes.
-    pub fn from_slice(alloc: Global, bytes: &[u8]) -> Result<Name, AllocError>
-        ensures bytes { IfOk result (λ n. n ≡ bytes.now) }
+    pub fn new(bytes: &'a [u8]) -> Name<'a>
+        ensures bytes { result ≡ bytes.now }
     {
-        Ok(Name {
-            bytes: Vec::from_slice(alloc, bytes)?,
-        })
+        Name { bytes }
     }
 
-    pub fn as_slice(&self) -> &[u8]
+    pub fn as_slice(&self) -> &'a [u8]
         ensures bytes { result.now ≡ self.now }
     {
-        self.bytes.as_slice()
+        self.bytes
     }
 
-    /// An equal name.
-    pub fn copy(&self, alloc: Global) -> Result<Name, AllocError>
-        ensures copy { IfOk result (λ n. n ≡ self.now) }
+    /// The same name.
+    pub fn copy(&self) -> Name<'a>
+        ensures copy { result ≡ self.now }
     {
-        Name::from_slice(alloc, self.as_slice())
+        Name { bytes: self.bytes }
     }
 }

@@ -24,7 +24,8 @@ none-behind : (items : List Item) (entry : Entry) (core : ℕ) → own_items (Do
 none-behind items entry core h = (if_own-empty (entry.core == core) entry (own_items items core) h).1
 
 -- Entries are those of one core, where no other has any.
-pub entries-own : (items : List Item) (core : ℕ) → ((other : ℕ) → other ≢ core → own_items items other ≡ []) → entries items ≡ own_items items core
+pub entries-own : (items : List Item) (core : ℕ) → ((other : ℕ) → other ≢ core → own_items items other ≡ [])
+    → entries items ≡ own_items items core
 entries-own [] core h = refl
 entries-own (Bus bus ∷ items) core h = entries-own items core h
 entries-own (Done entry ∷ items) core h =
@@ -34,7 +35,8 @@ entries-own (Done entry ∷ items) core h =
       | inr ne ↦ absurd (not-empty entry items (h entry.core ne))
     ]
 
-if_own-all : (is_own : Bool) (entry : Entry) (more : List Entry) (core : ℕ) → (entry.core == core) ≡ is_own → AllByRecursion (λ (e : Entry). e.core ≡ core) more
+if_own-all : (is_own : Bool) (entry : Entry) (more : List Entry) (core : ℕ) → (entry.core == core) ≡ is_own
+    → AllByRecursion (λ (e : Entry). e.core ≡ core) more
     → AllByRecursion (λ (e : Entry). e.core ≡ core) (if_own is_own entry more)
 if_own-all true entry more core is h = (grind arith, h)
 if_own-all false entry more core is h = h
@@ -46,7 +48,8 @@ own-all (Bus bus ∷ items) core = own-all items core
 own-all (Done entry ∷ items) core = if_own-all (entry.core == core) entry (own_items items core) core refl (own-all items core)
 
 -- All are of a core below a number, where no other has any.
-pub entries-within : (items : List Item) (cores : ℕ) → ((core : ℕ) → cores ≤ core → own_items items core ≡ []) → AllByRecursion (λ (e : Entry). e.core < cores) (entries items)
+pub entries-within : (items : List Item) (cores : ℕ) → ((core : ℕ) → cores ≤ core → own_items items core ≡ [])
+    → AllByRecursion (λ (e : Entry). e.core < cores) (entries items)
 entries-within [] cores h = tt
 entries-within (Bus bus ∷ items) cores h = entries-within items cores h
 entries-within (Done entry ∷ items) cores h = (

@@ -1,11 +1,13 @@
 -- What a run of unpipelined cores says of their cycles and their turns, where each answer came as its request was served.
-use Rattle.std.proofs.Common.{◌≡◌, ℕ, zero, suc, ◌+◌, ◌<◌, ◌≤◌, ◌⊎◌, inl, inr, Bool, true, false, List, [], ◌∷◌, ◌++◌, length, refl, ap, sym, ◌∙◌, arith, subst}
+use Rattle.std.proofs.Common.{◌≡◌, ℕ, ◌+◌, ◌<◌, ◌≤◌, ◌⊎◌, inl, inr, Bool, true, false, List, [], ◌∷◌, ◌++◌, length, refl, ap, sym, ◌∙◌}
+use Rattle.std.proofs.Common.{arith, subst}
 use Rattle.std.specs.Prelude.{Some, None, map, slice_get, ◌==◌}
 use Rattle.std.specs.List.{AllByRecursion}
 use Rattle.std.proofs.lemmas.Bool.{cases_lt, eq-eqb, ne_eqb}
-use Rattle.std.proofs.lemmas.Option.{same_Some, slice_get_within}
+use Rattle.std.proofs.lemmas.Option.{slice_get_within}
 use Rattle.std.proofs.lemmas.List.Elements.{filter-append}
 use Rattle.std.proofs.lemmas.List.{append-nil, length-append, length-map}
+use Rattle.std_laws.proofs.ListLaws.{slice_get_some}
 use Rattle.kmp_base.specs.declared.setup.Setup.{Setup}
 use Rattle.kmp_base.specs.declared.setup.MachineKind.TheVariants as machines
 use Rattle.kmp_base.specs.declared.setup.Turns.TheVariants as turns
@@ -15,7 +17,6 @@ use Rattle.access_log.specs.declared.Item.{Item}
 use Rattle.access_log.specs.Items.{entries}
 use Rattle.access_log.specs.Replay.{own}
 use Rattle.access_log.specs.Stamps.{Stamp, own_stamps, IsRising}
-use Rattle.access_log.proofs.MergeLaws.{slice_get_some}
 use Rattle.access_log.proofs.StampLaws.{own-stamps}
 use Rattle.timetable.specs.declared.CoreEnd.{CoreEnd}
 use Rattle.timetable.specs.Outcome.{OutcomeValue}
@@ -24,13 +25,13 @@ use Rattle.right_run.specs.Turns.{in_cycles, IsInRounds, IsInTurns}
 use Rattle.right_run.proofs.PlainLaws.{right-from_plain, turns-rounds}
 use Rattle.mem_port.specs.Engine.{EngineView}
 use Rattle.mem_port.specs.Memory.{MemoryView, IsFresh, IsAtOnce}
-use Rattle.mem_port.specs.Pace.{Pace, IsFirstPace}
+use Rattle.mem_port.specs.ServiceHistory.{ServiceHistory, IsFirstHistory}
 use Rattle.core_run.specs.Lanes.{IsStarted, IsClosed}
-use Rattle.core_run.specs.PlainView.{in_own_cycles, plain_view, IsPlainPace}
-use Rattle.core_run.specs.Serial.{AreInTurns, IsRun, IsEngineOf, IsStartSeat, IsServedRun}
+use Rattle.core_run.specs.PlainView.{in_own_cycles, plain_view, IsPlainHistory}
+use Rattle.core_run.specs.Serial.{AreInTurns, IsRun, IsEngineOf, IsStartSlot, IsServedRun}
 use Rattle.core_run.specs.declared.plain.Plain.{Plain}
-use Rattle.core_run.specs.declared.serial.Seat.{Seat}
-use Rattle.core_run.proofs.PlainEndLaws.{IsPromptEnd, prompt-end}
+use Rattle.core_run.specs.declared.serial.CoreSlot.{CoreSlot}
+use Rattle.core_run.proofs.PlainEndLaws.{IsUnstalledEnd, unstalled-end}
 
 abbrev entry_in : Stamp → Entry
 entry_in stamp = stamp.entry
@@ -52,7 +53,8 @@ others-own-if : (is_own : Bool) (before : List Entry) (stamp : Stamp) (stamps : 
     → HasOwnCycles before (stamp ∷ stamps) core → HasOwnCycles (before ++ stamp.entry ∷ []) stamps core
 others-own-if true before stamp stamps core is h =
     let all = rw is at h.are in
-    let count : length (own (before ++ stamp.entry ∷ []) core) ≡ length (own before core) + 1 = rw (filter-append, is) (length-append _ _) in
+    let count : length (own (before ++ stamp.entry ∷ []) core) ≡ length (own before core) + 1 =
+    rw (filter-append, is) (length-append _ _) in
     record { are = rw count (cc all) }
 others-own-if false before stamp stamps core is h =
     let all = rw is at h.are in
@@ -60,11 +62,13 @@ others-own-if false before stamp stamps core is h =
     record { are = rw same all }
 
 -- Stamps of single cores, each in its core's own cycles, are in the cycles of the whole order.
-in-cycles : (before : List Entry) (stamps : List Stamp) → ((core : ℕ) → HasOwnCycles before stamps core) → stamps ≡ in_cycles before (map entry_in stamps)
+in-cycles : (before : List Entry) (stamps : List Stamp) → ((core : ℕ) → HasOwnCycles before stamps core)
+    → stamps ≡ in_cycles before (map entry_in stamps)
 in-cycles before [] h = refl
 in-cycles before (stamp ∷ stamps) h =
     let first = first-in-cycle before stamp stamps (h stamp.entry.core) in
-    let others = in-cycles (before ++ stamp.entry ∷ []) stamps (λ core. others-own-if (stamp.entry.core == core) before stamp stamps core refl (h core)) in
+    let others = in-cycles (before ++ stamp.entry ∷ []) stamps
+    (λ core. others-own-if (stamp.entry.core == core) before stamp stamps core refl (h core)) in
     cc (first, others)
 
 -- A core that makes no entry has no stamp.
@@ -81,14 +85,17 @@ none-mapped (stamp ∷ stamps) h = cc
 own-cycles-of : (cores : ℕ) (stamps : List Stamp) → AllByRecursion (λ entry. entry.core < cores) (map entry_in stamps)
     → ((core : ℕ) → core < cores → own_stamps stamps core ≡ in_own_cycles 0 (map entry_in (own_stamps stamps core)))
     → (core : ℕ) → core < cores ⊎ cores ≤ core → HasOwnCycles [] stamps core
-own-cycles-of cores stamps within own_cycles core (inl in_range) = record { are = own_cycles core in_range ∙ ap (in_own_cycles 0) (sym (own-stamps stamps core)) }
+own-cycles-of cores stamps within own_cycles core (inl in_range) =
+    record { are = own_cycles core in_range ∙ ap (in_own_cycles 0) (sym (own-stamps stamps core)) }
 own-cycles-of cores stamps within own_cycles core (inr out) =
     let none = own-none (map entry_in stamps) cores core within out in
     record { are = none-mapped _ (sym (own-stamps stamps core) ∙ none) ∙ sym (ap (in_own_cycles 0) none) }
 
 -- Accesses in turns, of cores that each make them in their own cycles.
-in-turns : (cores rounds turn : ℕ) (items : List Item) (stamps : List Stamp) → AreInTurns rounds turn items stamps → AllByRecursion (λ entry. entry.core < cores) (entries items)
-    → ((core : ℕ) → core < cores → own_stamps stamps core ≡ in_own_cycles 0 (map entry_in (own_stamps stamps core))) → IsInRounds (entries items)
+in-turns : (cores rounds turn : ℕ) (items : List Item) (stamps : List Stamp) → AreInTurns rounds turn items stamps
+    → AllByRecursion (λ entry. entry.core < cores) (entries items)
+    → ((core : ℕ) → core < cores → own_stamps stamps core ≡ in_own_cycles 0 (map entry_in (own_stamps stamps core)))
+    → IsInRounds (entries items)
 in-turns cores rounds turn items stamps h within own_cycles =
     let inside = subst (AllByRecursion (λ (entry : Entry). entry.core < cores)) (sym h.are) within in
     let same = in-cycles [] stamps (λ core. own-cycles-of cores stamps inside own_cycles core (cases_lt core cores)) in
@@ -97,44 +104,48 @@ in-turns cores rounds turn items stamps h within own_cycles =
 abbrev pub view_of : Plain → EngineView
 view_of e = plain_view e.image.now e.core e.cores e.state e.executed e.phase e.clocks_left
 
-abbrev pub times_of : Pace → Plain → Type 0
-times_of pace e = IsPlainPace pace (view_of e) e.phase
+abbrev pub times_of : ServiceHistory → Plain → Type 0
+times_of history e = IsPlainHistory history (view_of e) e.phase
 
--- The seat of an unpipelined core before its first turn.
-pub record IsFirstSeat (image : ImageValue) (cores core : ℕ) (s : Seat Plain) : Type 0 where
-  pub seat : (budget : ℕ) → budget ≤ 4294967295 → IsStartSeat image core cores budget (view_of s.engine) s.lane s.end s.cycles
-  pub timed : (pace : Pace) → IsFirstPace pace → times_of pace s.engine
+-- The slot of an unpipelined core before its first turn.
+pub record IsFirstSlot (image : ImageValue) (cores core : ℕ) (s : CoreSlot Plain) : Type 0 where
+  pub slot : (budget : ℕ) → budget ≤ 4294967295 → IsStartSlot image core cores budget (view_of s.engine) s.lane s.end s.cycles
+  pub timed : (history : ServiceHistory) → IsFirstHistory history → times_of history s.engine
 
--- A seat as it was made with its engine.
-pub first-seat : (image : ImageValue) (cores core : ℕ) (engine : Plain) (s : Seat Plain) → IsStarted image core cores (view_of engine) → engine.clocks_left ≡ 4294967295
-    → ((pace : Pace) → IsFirstPace pace → times_of pace engine)
-    → s.engine ≡ engine → s.lane.core ≡ core → IsClosed s.lane → s.end ≡ None → s.cycles ≡ 0 → IsFirstSeat image cores core s
-first-seat image cores core engine s started clocks timed is lane_is closed no_end no_cycle = record {
-  seat = λ budget few.
-      record { engine = rw is started; clocks = rw (is, clocks) few; lane_is = lane_is; closed = closed; no_end = no_end; no_cycle = no_cycle };
-  timed = λ pace first. rw is (timed pace first);
+-- A slot as it was made with its engine.
+pub first-slot : (image : ImageValue) (cores core : ℕ) (engine : Plain) (s : CoreSlot Plain) → IsStarted image core cores (view_of engine)
+    → engine.clocks_left ≡ 4294967295
+    → ((history : ServiceHistory) → IsFirstHistory history → times_of history engine)
+    → s.engine ≡ engine → s.lane.core ≡ core → IsClosed s.lane → s.end ≡ None → s.cycles ≡ 0 → IsFirstSlot image cores core s
+first-slot image cores core engine s started clocks timed is lane_is closed no_end no_cycle = record {
+  slot = λ budget few.
+      record {
+        engine = rw is started;
+        clocks = rw (is, clocks) few;
+        lane_is = lane_is;
+        closed = closed;
+        no_end = no_end;
+        no_cycle = no_cycle;
+      };
+  timed = λ history first. rw is (timed history first);
 }
 
--- What holds of each element, and of one more behind them, holds of each.
-pub all-push : {X : Type 0} (P : ℕ → X → Type 0) (xs : List X) (new : X) → ((i : ℕ) (x : X) → slice_get xs i ≡ Some x → P i x) → P (length xs) new
-    → (i : ℕ) (x : X) → slice_get (xs ++ new ∷ []) i ≡ Some x → P i x
-all-push P [] new all here zero x got = subst (P 0) (same_Some _ _ got) here
-all-push P [] new all here (suc i) x got = cc
-all-push P (first ∷ xs) new all here zero x got = all zero x got
-all-push P (first ∷ xs) new all here (suc i) x got = all-push (λ k. P (suc k)) xs new (λ k. all (suc k)) here i x got
+-- Each core ended with an engine that was served by its history, without a wait.
+abbrev pub EndsUnstalled : ImageValue → ℕ → OutcomeValue → (ℕ → ServiceHistory) → Type 0
+EndsUnstalled image cores outcome histories = (core : ℕ) (ended : CoreEnd) → slice_get outcome.cores core ≡ Some ended
+    → ((histories core).is_drained ≡ false) × ((e : Plain) × (IsEngineOf image core cores (Some 0) ended (histories core) (view_of e)
+    × ((ended.rows.rows ≡ []) × (times_of (histories core) e
+    × (map entry_in (histories core).service.accesses ≡ own (entries outcome.items) core)))))
 
--- Each core ended with an engine that was served at its pace, without a wait.
-abbrev pub EndsPrompt : ImageValue → ℕ → OutcomeValue → (ℕ → Pace) → Type 0
-EndsPrompt image cores outcome paces = (core : ℕ) (ended : CoreEnd) → slice_get outcome.cores core ≡ Some ended
-    → ((paces core).is_drained ≡ false) × ((e : Plain) × (IsEngineOf image core cores (Some 0) ended (paces core) (view_of e)
-    × ((ended.rows.rows ≡ []) × (times_of (paces core) e × (map entry_in (paces core).service.accesses ≡ own (entries outcome.items) core)))))
-
-module _ (setup : Setup) (image : ImageValue) (outcome : OutcomeValue) (paces : ℕ → Pace) (run : IsRun image setup.cores setup.budget None outcome) (each : EndsPrompt image setup.cores outcome paces) where
-  end-at : (core : ℕ) (ended : CoreEnd) → slice_get outcome.cores core ≡ Some ended → IsPromptEnd image (paces core).service.accesses ended
+module _ (setup : Setup) (image : ImageValue) (outcome : OutcomeValue) (histories : ℕ → ServiceHistory)
+    (run : IsRun image setup.cores setup.budget None outcome) (each : EndsUnstalled image setup.cores outcome histories) where
+  end-at : (core : ℕ) (ended : CoreEnd) → slice_get outcome.cores core ≡ Some ended
+      → IsUnstalledEnd image (histories core).service.accesses ended
   end-at core ended got =
       let f = each core ended got in
       let e = f.1.0 in
-      prompt-end image e.image.now core setup.cores e.core e.cores ended (paces core) e.state e.executed e.clocks_left e.phase f.1.1.0 f.1.1.1.1.0 f.0
+      unstalled-end image e.image.now core setup.cores e.core e.cores ended (histories core) e.state e.executed e.clocks_left e.phase
+      f.1.1.0 f.1.1.1.1.0 f.0
 
   -- Such a run is right.
   pub run-right : setup.machine ≡ machines.Plain → IsRight setup image outcome
@@ -142,14 +153,16 @@ module _ (setup : Setup) (image : ImageValue) (outcome : OutcomeValue) (paces : 
     plain = plain;
     replays = run.replays;
     ends = λ core ended got.
-        (let accesses = (paces core).service.accesses in
-        let count : length accesses ≡ length (own (entries outcome.items) core) = sym (length-map accesses entry_in) ∙ ap length (each core ended got).1.1.1.1.1 in
+        (let accesses = (histories core).service.accesses in
+        let count : length accesses ≡ length (own (entries outcome.items) core) = sym (length-map accesses entry_in)
+        ∙ ap length (each core ended got).1.1.1.1.1 in
         rw (← count) ((end-at core ended got).rightly setup.budget (run.ends core ended got)));
     no_transaction = run.follows;
     no_rows = λ core ended got. (each core ended got).1.1.1.0;
   })
 
-  run-turns : (stamps : List Stamp) → AreInTurns setup.budget 0 outcome.items stamps → ((core : ℕ) → core < setup.cores → (paces core).service.accesses ≡ own_stamps stamps core)
+  run-turns : (stamps : List Stamp) → AreInTurns setup.budget 0 outcome.items stamps
+      → ((core : ℕ) → core < setup.cores → (histories core).service.accesses ≡ own_stamps stamps core)
       → IsInRounds (entries outcome.items)
   run-turns stamps turns received = in-turns setup.cores setup.budget 0 outcome.items stamps turns run.within
       (λ core in_range.
@@ -157,16 +170,22 @@ module _ (setup : Setup) (image : ImageValue) (outcome : OutcomeValue) (paces : 
       subst (λ (own : List Stamp). own ≡ in_own_cycles 0 (map entry_in own)) (received core in_range) (end-at core some.0 some.1).cycles))
 
 -- A run on a memory that was fresh, of the words of its setup.
-pub run-fresh : (image : ImageValue) (cores budget : ℕ) (m : MemoryView) (outcome : OutcomeValue) → IsFresh image cores budget None m → IsRun m.image m.cores budget m.caches outcome → IsRun image cores budget None outcome
+pub run-fresh : (image : ImageValue) (cores budget : ℕ) (m : MemoryView) (outcome : OutcomeValue) → IsFresh image cores budget None m
+    → IsRun m.image m.cores budget m.caches outcome → IsRun image cores budget None outcome
 run-fresh image cores budget m outcome fresh run = rw (fresh.image_is, fresh.cores_are, fresh.caches_are) at run
 
 -- What a run in turns is, on a memory that answers each request as it is served.
-pub run-prompt : (setup : Setup) (image : ImageValue) (m : MemoryView) (outcome : OutcomeValue) (paces : ℕ → Pace) → setup.machine ≡ machines.Plain → setup.turns ≡ turns.Round → IsFresh image setup.cores setup.budget None m → IsAtOnce m
-    → IsRun m.image m.cores setup.budget m.caches outcome → IsServedRun view_of (λ e. []) times_of m setup.budget outcome paces → IsRight setup image outcome × IsInTurns setup (entries outcome.items)
-run-prompt setup image m outcome paces plain round fresh once run served =
+pub run-unstalled : (setup : Setup) (image : ImageValue) (m : MemoryView) (outcome : OutcomeValue) (histories : ℕ → ServiceHistory)
+    → setup.machine ≡ machines.Plain → setup.turns ≡ turns.Round → IsFresh image setup.cores setup.budget None m → IsAtOnce m
+    → IsRun m.image m.cores setup.budget m.caches outcome → IsServedRun view_of (λ e. []) times_of m setup.budget outcome histories
+    → IsRight setup image outcome × IsInTurns setup (entries outcome.items)
+run-unstalled setup image m outcome histories plain round fresh once run served =
     let at_once = served.at_once once in
     let same = run-fresh image setup.cores setup.budget m outcome fresh run in
-    let each : EndsPrompt image setup.cores outcome paces = λ core ended got.
-    (at_once.waited core (let within = slice_get_within outcome.cores core ended got in omega (arith, within, run.count)), rw (fresh.image_is, fresh.cores_are, once.told, once.bound) at served.ends core ended got) in
-    let order = run-turns setup image outcome paces same each at_once.stamps at_once.turns (λ core within. at_once.received core (rw fresh.cores_are within)) in
-    (run-right setup image outcome paces same each plain, turns-rounds setup (entries outcome.items) plain round order)
+    let each : EndsUnstalled image setup.cores outcome histories = λ core ended got. (
+      at_once.waited core (let within = slice_get_within outcome.cores core ended got in omega (arith, within, run.count)),
+      rw (fresh.image_is, fresh.cores_are, once.told, once.bound) at served.ends core ended got,
+    ) in
+    let order = run-turns setup image outcome histories same each at_once.stamps at_once.turns
+    (λ core within. at_once.received core (rw fresh.cores_are within)) in
+    (run-right setup image outcome histories same each plain, turns-rounds setup (entries outcome.items) plain round order)

@@ -1,105 +1,102 @@
--- The ends of cores that took turns: what their seats tell, and how their engines were served.
-use Rattle.std.proofs.Common.{◌≡◌, ℕ, zero, suc, Some, None, List, [], ◌∷◌, ◌++◌, length, refl, ap, sym, ◌∙◌, subst, arith}
+-- The ends of cores that took turns: what their slots tell, and how their engines were served.
+use Rattle.std.proofs.Common.{◌≡◌, ℕ, Some, None, List, length, refl, ap, sym, ◌∙◌, subst, arith}
 use Rattle.std.specs.Prelude.{Option, slice_get, map, ◌&&◌, not}
 use Rattle.std.proofs.lemmas.Option.{same_Some}
+use Rattle.std_laws.proofs.ListLaws.{slice_get_some}
 use Rattle.access_log.specs.declared.Item.{Item}
 use Rattle.access_log.specs.Items.{entries}
 use Rattle.access_log.specs.Stamps.{Stamp}
-use Rattle.access_log.proofs.MergeLaws.{slice_get_some}
 use Rattle.timetable.specs.declared.CoreEnd.{CoreEnd}
 use Rattle.timetable.specs.declared.End.{End}
 use Rattle.timetable.specs.declared.rows.TimeRow.{TimeRow}
 use Rattle.mem_port.specs.Memory.{MemoryView, Keeps, committed}
 use Rattle.mem_port.specs.Engine.{EngineView}
-use Rattle.mem_port.specs.Pace.{Pace}
+use Rattle.mem_port.specs.ServiceHistory.{ServiceHistory}
 use Rattle.mem_port.specs.Side.{side_of}
 use Rattle.core_run.specs.declared.lane.Lane.{Lane}
-use Rattle.core_run.specs.declared.serial.Seat.{Seat}
+use Rattle.core_run.specs.declared.serial.CoreSlot.{CoreSlot}
 use Rattle.core_run.specs.Lanes.{HasCome, IsFinished, bound_of}
-use Rattle.core_run.specs.Serial.{IsOver, SeatHolds, SeatAt, IsServedAt, AreServed, IsServedRun, IsEngineOf, IsEndOf, goes_on}
+use Rattle.core_run.specs.Serial.{IsOver, SlotHolds, SlotAt, IsServedAt, AreServed, IsServedRun, IsEngineOf, IsEndOf, goes_on}
 use Rattle.core_run.proofs.DoneLaws.{IsDone, finished-done, finished-own}
-use Rattle.core_run.proofs.RoundLemmas.{AreSeated}
+use Rattle.core_run.proofs.RoundLemmas.{AreInSlots}
 use Rattle.core_run.proofs.TurnLemmas.{once-along}
 
-slice_get-middle : {X : Type 0} (xs : List X) (x : X) (ys : List X) → slice_get (xs ++ x ∷ ys) (length xs) ≡ Some x
-slice_get-middle [] x ys = refl
-slice_get-middle (first ∷ xs) x ys = slice_get-middle xs x ys
-
--- The first of the rest stands behind those before.
-pub slice_get-next : {X : Type 0} (items xs rest ys : List X) (x : X) → items ≡ xs ++ rest → rest ≡ x ∷ ys → slice_get items (length xs) ≡ Some x
-slice_get-next items xs rest ys x are first = rw (are, first) (slice_get-middle xs x ys)
-
--- What holds of two lists element by element, after one was appended to each.
-pub push-each : {X Y : Type 0} (R : X → Y → Type 0) (xs : List X) (ys : List Y) (x : X) (y : Y) → length ys ≡ length xs → R x y
-    → ((k : ℕ) (b : Y) → slice_get ys k ≡ Some b → (a : X) × ((slice_get xs k ≡ Some a) × R a b))
-    → (k : ℕ) (b : Y) → slice_get (ys ++ y ∷ []) k ≡ Some b → (a : X) × ((slice_get (xs ++ x ∷ []) k ≡ Some a) × R a b)
-push-each R [] [] x y e here all zero b got = (x, (refl, subst (R x) (same_Some y b got) here))
-push-each R [] [] x y e here all (suc k) b got = cc
-push-each R [] (d ∷ ys) x y e here all k b got = absurd (omega (arith, e))
-push-each R (c ∷ xs) [] x y e here all k b got = absurd (omega (arith, e))
-push-each R (c ∷ xs) (d ∷ ys) x y e here all zero b got = all zero b got
-push-each R (c ∷ xs) (d ∷ ys) x y e here all (suc k) b got = push-each R xs ys x y (omega (arith, e)) here (λ k b. all (suc k) b) k b got
-
 -- A core that has had its turn in each round of the budget has ended.
-over-holds : (end : Option End) (budget : ℕ) (m : MemoryView) (e : EngineView) (lane : Lane) (cycles : ℕ) → SeatHolds end budget budget m e lane cycles
+over-holds : (end : Option End) (budget : ℕ) (m : MemoryView) (e : EngineView) (lane : Lane) (cycles : ℕ)
+    → SlotHolds end budget budget m e lane cycles
     → (it : End) × ((end ≡ Some it) × IsOver budget m e lane it cycles)
 over-holds None budget m e lane cycles h = absurd (let more = h.more in omega (arith, more))
 over-holds (Some it) budget m e lane cycles h = (it, (refl, h))
 
-pub seat-over : {core budget : ℕ} {m : MemoryView} {e : EngineView} {lane : Lane} {end : Option End} {cycles : ℕ} → SeatAt core budget budget m e lane end cycles
+pub slot-over : {core budget : ℕ} {m : MemoryView} {e : EngineView} {lane : Lane} {end : Option End} {cycles : ℕ}
+    → SlotAt core budget budget m e lane end cycles
     → (it : End) × ((end ≡ Some it) × IsOver budget m e lane it cycles)
-seat-over {core} {budget} {m} {e} {lane} {end} {cycles} h = over-holds end budget m e lane cycles h.holds
+slot-over {core} {budget} {m} {e} {lane} {end} {cycles} h = over-holds end budget m e lane cycles h.holds
 
-pub seat-done : (budget : ℕ) (m : MemoryView) (core : ℕ) (e : EngineView) (rows : List TimeRow) (lane : Lane) (end : Option End) (cycles : ℕ) (ended : CoreEnd)
-    → SeatAt core budget budget m e lane end cycles → IsEndOf e rows end cycles ended → IsDone budget m core ended
-seat-done budget m core e rows lane end cycles ended at told =
-    let over = seat-over at in
+pub slot-done : (budget : ℕ) (m : MemoryView) (core : ℕ) (e : EngineView) (rows : List TimeRow) (lane : Lane) (end : Option End)
+    (cycles : ℕ) (ended : CoreEnd)
+    → SlotAt core budget budget m e lane end cycles → IsEndOf e rows end cycles ended → IsDone budget m core ended
+slot-done budget m core e rows lane end cycles ended at told =
+    let over = slot-over at in
     let same : over.0 ≡ ended.end = same_Some over.0 ended.end (sym over.1.0 ∙ told.ends) in
     let finished = subst (λ (k : ℕ). IsFinished e (side_of m k) k) at.lane_is over.1.1.finished in
     let runs = subst (λ (k : ℕ). HasCome e (committed m k)) at.lane_is over.1.1.runs in
     finished-done budget m core e ended finished runs told.retired told.state (rw (same, sym told.took) at over.1.1.fits)
 
--- What the ends of seats are.
+-- What the ends of slots are.
 module _ {E : Type 0} (view : E → EngineView) (rows : E → List TimeRow) where
-  abbrev pub AreEnds : List (Seat E) → List CoreEnd → Type 0
-  AreEnds seats ends =
+  abbrev pub AreEnds : List (CoreSlot E) → List CoreEnd → Type 0
+  AreEnds slots ends =
       (core : ℕ) (ended : CoreEnd) → slice_get ends core ≡ Some ended
-      → (s : Seat E) × ((slice_get seats core ≡ Some s) × IsEndOf (view s.engine) (rows s.engine) s.end s.cycles ended)
+      → (s : CoreSlot E) × ((slice_get slots core ≡ Some s) × IsEndOf (view s.engine) (rows s.engine) s.end s.cycles ended)
 
-  pub ends-done : (budget : ℕ) (m : MemoryView) (seats : List (Seat E)) (ends : List CoreEnd) → AreSeated view (λ core. budget) budget m seats → AreEnds seats ends
+  pub ends-done : (budget : ℕ) (m : MemoryView) (slots : List (CoreSlot E)) (ends : List CoreEnd)
+      → AreInSlots view (λ core. budget) budget m slots → AreEnds slots ends
       → (core : ℕ) (ended : CoreEnd) → slice_get ends core ≡ Some ended → IsDone budget m core ended
-  ends-done budget m seats ends at told core ended got =
+  ends-done budget m slots ends at told core ended got =
       let s = told core ended got in
-      seat-done budget m core (view s.0.engine) (rows s.0.engine) s.0.lane s.0.end s.0.cycles ended (at core s.0 s.1.0) s.1.1
+      slot-done budget m core (view s.0.engine) (rows s.0.engine) s.0.lane s.0.end s.0.cycles ended (at core s.0 s.1.0) s.1.1
 
-  engine-of : (times : Pace → E → Type 0) (old new : MemoryView) (budget core : ℕ) (s : Seat E) (ended : CoreEnd) (pace : Pace) → Keeps old new
-      → SeatAt core budget budget new (view s.engine) s.lane s.end s.cycles → IsServedAt view times new s.engine s.lane s.end s.cycles pace
-      → IsEndOf (view s.engine) (rows s.engine) s.end s.cycles ended → IsEngineOf old.image core old.cores (bound_of (side_of old core)) ended pace (view s.engine)
-  engine-of times old new budget core s ended pace kept at served told =
-      let finished = (seat-over at).1.1.finished in
+  engine-of : (times : ServiceHistory → E → Type 0) (old new : MemoryView) (budget core : ℕ) (s : CoreSlot E) (ended : CoreEnd)
+      (history : ServiceHistory) → Keeps old new
+      → SlotAt core budget budget new (view s.engine) s.lane s.end s.cycles
+      → IsServedAt view times new s.engine s.lane s.end s.cycles history
+      → IsEndOf (view s.engine) (rows s.engine) s.end s.cycles ended
+      → IsEngineOf old.image core old.cores (bound_of (side_of old core)) ended history (view s.engine)
+  engine-of times old new budget core s ended history kept at served told =
+      let finished = (slot-over at).1.1.finished in
       record {
         image_is = finished.image ∙ kept.image;
         core_is = finished.core_is ∙ at.lane_is;
         cores_are = finished.cores ∙ kept.cores;
         retired = told.retired;
         state = told.state;
-        live = served.live ∙ ap (λ (end : Option End). goes_on end && not pace.is_drained) told.ends;
+        live = served.live ∙ ap (λ (end : Option End). goes_on end && not history.is_drained) told.ends;
         clocks = served.clocks ∙ sym told.took;
         bound_is = rw (sym kept.tells_distances, sym kept.bound) served.bound;
       }
 
   -- How the engines were served until their cores ended.
-  pub ends-served : (times : Pace → E → Type 0) (old new : MemoryView) (budget : ℕ) (words : List ℕ) (items : List Item) (seats : List (Seat E)) (ends : List CoreEnd) (paces : ℕ → Pace)
-      → Keeps old new → length ends ≡ old.cores → entries items ≡ entries new.history → AreSeated view (λ core. budget) budget new seats → AreEnds seats ends
-      → AreServed view times budget 0 new seats paces → IsServedRun view rows times old budget (record { cores = ends; words = words; items = items }) paces
-  ends-served times old new budget words items seats ends paces kept count same at told served = record {
+  pub ends-served : (times : ServiceHistory → E → Type 0) (old new : MemoryView) (budget : ℕ) (words : List ℕ) (items : List Item)
+      (slots : List (CoreSlot E)) (ends : List CoreEnd) (histories : ℕ → ServiceHistory)
+      → Keeps old new → length ends ≡ old.cores → entries items ≡ entries new.history → AreInSlots view (λ core. budget) budget new slots
+      → AreEnds slots ends
+      → AreServed view times budget 0 new slots histories
+      → IsServedRun view rows times old budget (record { cores = ends; words = words; items = items }) histories
+  ends-served times old new budget words items slots ends histories kept count same at told served = record {
     ends = λ core ended got.
         (let s = told core ended got in
         let here = at core s.0 s.1.0 in
         let h = served.each core s.0 s.1.0 in
-        let finished = subst (λ (k : ℕ). IsFinished (view s.0.engine) (side_of new k) k) here.lane_is (seat-over here).1.1.finished in
-        let takes = subst (λ (k : ℕ). map (λ (stamp : Stamp). stamp.entry) (paces core).service.accesses ≡ committed new k) here.lane_is h.accesses in
-        (s.0.engine, (engine-of times old new budget core s.0 ended (paces core) kept here h s.1.1, (s.1.1.rows_are, (h.tells, takes ∙ finished-own new core (view s.0.engine) items finished same)))));
+        let finished = subst (λ (k : ℕ). IsFinished (view s.0.engine) (side_of new k) k) here.lane_is (slot-over here).1.1.finished in
+        let takes = subst (λ (k : ℕ). map (λ (stamp : Stamp). stamp.entry) (histories core).service.accesses ≡ committed new k) here.lane_is
+        h.accesses in (
+          s.0.engine,
+          (
+            engine-of times old new budget core s.0 ended (histories core) kept here h s.1.1,
+            (s.1.1.rows_are, (h.tells, takes ∙ finished-own new core (view s.0.engine) items finished same)),
+          ),
+        ));
     at_once = λ once.
         (let now = once-along kept.tells_distances kept.bound once in
         let received = served.at_once now in

@@ -5,6 +5,7 @@ use Rattle.std.specs.List.{AllByRecursion}
 use Rattle.std.proofs.lemmas.Bool.{eq-eqb, ne_eqb}
 use Rattle.std.proofs.lemmas.List.{map-append}
 use Rattle.std.proofs.lemmas.List.Elements.{filter-append}
+use Rattle.std_laws.proofs.ListLaws.{AllByRecursion-append, AllByRecursion-weaker}
 use Rattle.access_log.specs.declared.Entry.{Entry}
 use Rattle.access_log.specs.declared.Item.{Item}
 use Rattle.access_log.specs.Items.{entries}
@@ -12,23 +13,16 @@ use Rattle.access_log.specs.Stamps.{Stamp, stamped, own_stamps, Precedes, IsRisi
 use Rattle.access_log.proofs.StampLaws.{IsRising-append}
 use Rattle.core_run.specs.Serial.{AddsOwn, IsEarlier, AreInTurns}
 
--- Facts of each element.
-
-pub all-append : {X : Type 0} (P : X → Type 0) (xs ys : List X) → AllByRecursion P xs → AllByRecursion P ys → AllByRecursion P (xs ++ ys)
-all-append P [] ys h k = k
-all-append P (x ∷ xs) ys h k = (h.0, all-append P xs ys h.1 k)
-
-all-weaker : {X : Type 0} (P Q : X → Type 0) (xs : List X) → ((x : X) → P x → Q x) → AllByRecursion P xs → AllByRecursion Q xs
-all-weaker P Q [] f h = tt
-all-weaker P Q (x ∷ xs) f h = (f x h.0, all-weaker P Q xs f h.1)
-
 -- Those of one cycle, where all entries are of one core.
 
-stamped-own : (cycle core : ℕ) (more : List Entry) → AllByRecursion (λ (e : Entry). e.core ≡ core) more → own_stamps (stamped cycle more) core ≡ stamped cycle more
+stamped-own : (cycle core : ℕ) (more : List Entry) → AllByRecursion (λ (e : Entry). e.core ≡ core) more
+    → own_stamps (stamped cycle more) core ≡ stamped cycle more
 stamped-own cycle core [] own = refl
-stamped-own cycle core (entry ∷ more) own = rw (eq-eqb entry.core core own.0) (ap (λ t. record { entry = entry; cycle = cycle } ∷ t) (stamped-own cycle core more own.1))
+stamped-own cycle core (entry ∷ more) own =
+    rw (eq-eqb entry.core core own.0) (ap (λ t. record { entry = entry; cycle = cycle } ∷ t) (stamped-own cycle core more own.1))
 
-stamped-other : (cycle core other : ℕ) (more : List Entry) → other ≢ core → AllByRecursion (λ (e : Entry). e.core ≡ core) more → own_stamps (stamped cycle more) other ≡ []
+stamped-other : (cycle core other : ℕ) (more : List Entry) → other ≢ core → AllByRecursion (λ (e : Entry). e.core ≡ core) more
+    → own_stamps (stamped cycle more) other ≡ []
 stamped-other cycle core other [] ne own = refl
 stamped-other cycle core other (entry ∷ more) ne own =
     rw (ne_eqb entry.core other (λ e. ne (sym e ∙ own.0))) (stamped-other cycle core other more ne own.1)
@@ -38,7 +32,8 @@ pub own-turn : (cycle core : ℕ) (stamps : List Stamp) (more : List Entry) → 
 own-turn cycle core stamps more own =
     filter-append _ stamps (stamped cycle more) ∙ ap (λ t. own_stamps stamps core ++ t) (stamped-own cycle core more own)
 
-pub own-other : (cycle core other : ℕ) (stamps : List Stamp) (more : List Entry) → other ≢ core → AllByRecursion (λ (e : Entry). e.core ≡ core) more
+pub own-other : (cycle core other : ℕ) (stamps : List Stamp) (more : List Entry) → other ≢ core
+    → AllByRecursion (λ (e : Entry). e.core ≡ core) more
     → own_stamps (stamps ++ stamped cycle more) other ≡ own_stamps stamps other
 own-other cycle core other stamps more ne own =
     filter-append _ stamps (stamped cycle more)
@@ -54,16 +49,19 @@ in-turns-start items none = record { are = sym (ap entries none); rising = tt; e
 
 -- A turn adds at most one, behind those of the turns before.
 
-earlier-precedes : (rounds turn : ℕ) (entry : Entry) (s : Stamp) → entry.core ≡ turn → IsEarlier rounds turn s → Precedes s (record { entry = entry; cycle = rounds + 1 })
+earlier-precedes : (rounds turn : ℕ) (entry : Entry) (s : Stamp) → entry.core ≡ turn → IsEarlier rounds turn s
+    → Precedes s (record { entry = entry; cycle = rounds + 1 })
 earlier-precedes rounds turn entry s is (inl before) = inl (omega arith)
 earlier-precedes rounds turn entry s is (inr here) = inr (here.0, omega (arith, is, here.1))
 
-rising-turn : (rounds turn : ℕ) (stamps : List Stamp) (more : List Entry) → length more ≤ 1 → AllByRecursion (λ (e : Entry). e.core ≡ turn) more
+rising-turn : (rounds turn : ℕ) (stamps : List Stamp) (more : List Entry) → length more ≤ 1
+    → AllByRecursion (λ (e : Entry). e.core ≡ turn) more
     → IsRising stamps → AllByRecursion (IsEarlier rounds turn) stamps → IsRising (stamps ++ stamped (rounds + 1) more)
 rising-turn rounds turn stamps [] one own rising earlier = rw (append-nil stamps) rising
 rising-turn rounds turn stamps (entry ∷ []) one own rising earlier =
     IsRising-append stamps (record { entry = entry; cycle = rounds + 1 }) rising
-    (all-weaker (IsEarlier rounds turn) (λ s. Precedes s (record { entry = entry; cycle = rounds + 1 })) stamps (λ s. earlier-precedes rounds turn entry s own.0) earlier)
+    (AllByRecursion-weaker (IsEarlier rounds turn) (λ s. Precedes s (record { entry = entry; cycle = rounds + 1 }))
+    (λ s. earlier-precedes rounds turn entry s own.0) stamps earlier)
 rising-turn rounds turn stamps (a ∷ b ∷ more) one own rising earlier = absurd (omega (arith, one))
 
 earlier-more : (rounds turn : ℕ) (s : Stamp) → IsEarlier rounds turn s → IsEarlier rounds (turn + 1) s
@@ -75,13 +73,15 @@ earlier-turn : (rounds turn : ℕ) (more : List Entry) → AllByRecursion (λ (e
 earlier-turn rounds turn [] own = tt
 earlier-turn rounds turn (entry ∷ more) own = (let is = own.0 in inr (refl, omega (arith, is)), earlier-turn rounds turn more own.1)
 
-pub after-turn : (rounds turn : ℕ) (old new : List Item) (stamps : List Stamp) (more : List Entry) → AddsOwn turn more old new → AreInTurns rounds turn old stamps
+pub after-turn : (rounds turn : ℕ) (old new : List Item) (stamps : List Stamp) (more : List Entry) → AddsOwn turn more old new
+    → AreInTurns rounds turn old stamps
     → AreInTurns rounds (turn + 1) new (stamps ++ stamped (rounds + 1) more)
 after-turn rounds turn old new stamps more adds h = record {
   are = map-append _ stamps (stamped (rounds + 1) more) ∙ rw (h.are, entries-stamped (rounds + 1) more) (sym adds.added);
   rising = rising-turn rounds turn stamps more adds.one adds.own h.rising h.earlier;
-  earlier = all-append (IsEarlier rounds (turn + 1)) stamps (stamped (rounds + 1) more)
-      (all-weaker (IsEarlier rounds turn) (IsEarlier rounds (turn + 1)) stamps (earlier-more rounds turn) h.earlier) (earlier-turn rounds turn more adds.own);
+  earlier = AllByRecursion-append (IsEarlier rounds (turn + 1)) stamps (stamped (rounds + 1) more)
+      (AllByRecursion-weaker (IsEarlier rounds turn) (IsEarlier rounds (turn + 1)) (earlier-more rounds turn) stamps h.earlier)
+      (earlier-turn rounds turn more adds.own);
 }
 
 earlier-round : (rounds turn : ℕ) (s : Stamp) → IsEarlier rounds turn s → IsEarlier (rounds + 1) 0 s
@@ -89,9 +89,10 @@ earlier-round rounds turn s (inl before) = inl (omega arith)
 earlier-round rounds turn s (inr here) = let is = here.0 in inl (omega (arith, is))
 
 -- A round is behind when all turns are.
-pub after-round : (rounds turn : ℕ) (items : List Item) (stamps : List Stamp) → AreInTurns rounds turn items stamps → AreInTurns (rounds + 1) 0 items stamps
+pub after-round : (rounds turn : ℕ) (items : List Item) (stamps : List Stamp) → AreInTurns rounds turn items stamps
+    → AreInTurns (rounds + 1) 0 items stamps
 after-round rounds turn items stamps h = record {
   are = h.are;
   rising = h.rising;
-  earlier = all-weaker (IsEarlier rounds turn) (IsEarlier (rounds + 1) 0) stamps (earlier-round rounds turn) h.earlier;
+  earlier = AllByRecursion-weaker (IsEarlier rounds turn) (IsEarlier (rounds + 1) 0) (earlier-round rounds turn) stamps h.earlier;
 }

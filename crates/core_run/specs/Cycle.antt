@@ -1,5 +1,6 @@
 -- One cycle of a core, and its end: the calls on its side of the memory in their order, and what they make of its engine.
-use Rattle.std.specs.Prelude.{◌≡◌, ℕ, ◌+◌, ◌≤◌, ◌||◌, Bool, true, false, IsTrue, is_some, Option, Some, None, option_map, List, [], ◌∷◌, ◌++◌}
+use Rattle.std.specs.Prelude.{◌≡◌, ℕ, ◌+◌, ◌≤◌, ◌||◌, Bool, true, false, IsTrue, is_some, Option, Some, None, option_map, List, [], ◌∷◌}
+use Rattle.std.specs.Prelude.{◌++◌}
 use Rattle.access_log.specs.Requests.{fetch_of}
 use Rattle.access_log.specs.declared.request.Request.{Request}
 use Rattle.mem_port.specs.declared.port.Port.{Port}
@@ -13,7 +14,7 @@ use Rattle.mem_port.specs.declared.port.Withdrawal.TheVariants as withdrawal
 use Rattle.mem_port.specs.declared.engine.Progress.{Progress}
 use Rattle.mem_port.specs.Calls.{Call, Ask, Serve, Step, Take, Withdraw, Lead}
 use Rattle.mem_port.specs.Engine.{EngineView, Clocks, Drains}
-use Rattle.mem_port.specs.Pace.{Pace, Paces, PacesDrain, is_unmet, one_if, executed_by}
+use Rattle.mem_port.specs.ServiceHistory.{ServiceHistory, AfterClock, AfterDrain, is_unmet, one_if, executed_by}
 use Rattle.mem_port.specs.Ports.{core_of, IsWaiting, IsUnanswered}
 use Rattle.mem_port.specs.Side.{SideView, Evolves, steps_in}
 use Rattle.core_run.specs.declared.lane.Lane.{Lane}
@@ -67,20 +68,21 @@ abbrev pub moved_in : Option Moved → ℕ
 moved_in None = 0
 moved_in (Some result) = steps_in result
 
--- How many own steps more a request may wait: its patience where it is open, else the bound.
+-- How many own steps more a request may wait: its remaining wait where it is open, else the bound.
 abbrev pub wait_left : Bool → ℕ → ℕ → ℕ
-wait_left true patience bound = patience
-wait_left false patience bound = bound
+wait_left true remaining_wait bound = remaining_wait
+wait_left false remaining_wait bound = bound
 
 -- Where distances are told, a request that is open behind a cycle may wait for a step less.
 pub record WaitsLess (old new : SideView) (before after : Lane) : Type 0 where
   pub fetch : IsTrue old.tells_distances → after.open_fetch ≡ true
-      → new.patience (Fetch before.core) + 1 ≤ wait_left before.open_fetch (old.patience (Fetch before.core)) old.bound
+      → new.remaining_wait (Fetch before.core) + 1 ≤ wait_left before.open_fetch (old.remaining_wait (Fetch before.core)) old.bound
   pub access : IsTrue old.tells_distances → after.open_access ≡ true
-      → new.patience (Access before.core) + 1 ≤ wait_left before.open_access (old.patience (Access before.core)) old.bound
+      → new.remaining_wait (Access before.core) + 1 ≤ wait_left before.open_access (old.remaining_wait (Access before.core)) old.bound
 
 -- One cycle of a core: from an engine and a side, with what came for the engine, to the engine and the side behind it.
-pub record IsCycle {E S : Type 0} (view : E → EngineView) (times : Pace → E → Type 0) (side : S → ℕ → SideView) (makes : Call → S → S → Type 0) (pays : ℕ → ℕ → S → S → Type 0)
+pub record IsCycle {E S : Type 0} (view : E → EngineView) (times : ServiceHistory → E → Type 0) (side : S → ℕ → SideView)
+    (makes : Call → S → S → Type 0) (pays : ℕ → ℕ → S → S → Type 0)
     (choice : ℕ) (came : Came) (result : Progress) (e f : E) (s t : S) (before after : Lane) : Type 0 where
   -- These calls were made, and no other.
   pub calls : Lead makes (cycle_calls choice (view e) before came) s t
@@ -89,7 +91,7 @@ pub record IsCycle {E S : Type 0} (view : E → EngineView) (times : Pace → E 
   pub lane : after ≡ lane_after (view e) before came
   -- The engine has one clock, with what came.
   pub clock : Clocks came.fetched came.reply result (view e) (view f)
-  pub timed : (p q : Pace) → times p e → Paces came.fetched came.reply (view e) p q → times q f
+  pub timed : (p q : ServiceHistory) → times p e → AfterClock came.fetched came.reply (view e) p q → times q f
   -- What is taken is the access that the answer executes.
   pub taken : (side t before.core).taken ≡ (side s before.core).taken ++ executed_by (view e).core (view e).access came.reply
   pub asks : UsesAsks (view e) before (side s before.core) (side t before.core)
@@ -125,21 +127,26 @@ WasOn state r withdrawal.Withdrawn = IsUnanswered state
 WasOn state r (withdrawal.Answered word) = Evolves state (Answered r word)
 
 -- Where an access is open, an engine is drained with what became of it; else it stays as it is.
-abbrev pub IsDrained : {E : Type 0} → (E → EngineView) → (Pace → E → Type 0) → Bool → Withdrawal → E → E → Type 0
+abbrev pub IsDrained : {E : Type 0} → (E → EngineView) → (ServiceHistory → E → Type 0) → Bool → Withdrawal → E → E → Type 0
 IsDrained {E} view times false answer e f = f ≡ e
 IsDrained {E} view times true answer e f =
-    Drains (found_by answer) (view e) (view f) × ((p q : Pace) → times p e → PacesDrain (found_by answer) (view e) p q → times q f)
+    Drains (found_by answer) (view e) (view f)
+    × ((p q : ServiceHistory) → times p e → AfterDrain (found_by answer) (view e) p q → times q f)
 
 -- The end of a core: from an engine and a side, with what the withdrawals of its two ports answered, to those behind it.
-pub record IsEnding {E S : Type 0} (view : E → EngineView) (times : Pace → E → Type 0) (side : S → ℕ → SideView) (makes : Call → S → S → Type 0) (pays : ℕ → ℕ → S → S → Type 0)
+pub record IsEnding {E S : Type 0} (view : E → EngineView) (times : ServiceHistory → E → Type 0) (side : S → ℕ → SideView)
+    (makes : Call → S → S → Type 0) (pays : ℕ → ℕ → S → S → Type 0)
     (access fetch : Withdrawal) (e f : E) (s t : S) (before after : Lane) : Type 0 where
   -- These calls were made, and no other.
   pub calls : Lead makes (end_calls before access fetch) s t
-  pub access_was : before.open_access ≡ true → (r : Request) → (view e).access ≡ Some r → WasOn ((side s before.core).port (Access before.core)) r access
-  pub fetch_was : before.open_fetch ≡ true → (addr : ℕ) → (view e).fetch ≡ Some addr → WasOn ((side s before.core).port (Fetch before.core)) (fetch_of addr) fetch
+  pub access_was : before.open_access ≡ true → (r : Request) → (view e).access ≡ Some r
+      → WasOn ((side s before.core).port (Access before.core)) r access
+  pub fetch_was : before.open_fetch ≡ true → (addr : ℕ) → (view e).fetch ≡ Some addr
+      → WasOn ((side s before.core).port (Fetch before.core)) (fetch_of addr) fetch
   pub lane : after ≡ record { core = before.core; open_fetch = false; open_access = false }
   pub drained : IsDrained view times before.open_access access e f
-  pub taken : (side t before.core).taken ≡ (side s before.core).taken ++ executed_by (view e).core (view e).access (late_reply before.open_access access)
+  pub taken : (side t before.core).taken ≡ (side s before.core).taken
+      ++ executed_by (view e).core (view e).access (late_reply before.open_access access)
   pub asks : (q : Port) → core_of q ≡ before.core → (side t before.core).asks_left q ≡ (side s before.core).asks_left q
   -- No step is made.
   pub paid : pays before.core 0 s t

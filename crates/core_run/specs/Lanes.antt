@@ -12,8 +12,8 @@ use Rattle.mem_port.specs.declared.port.Port.TheVariants.{Fetch, Access}
 use Rattle.mem_port.specs.declared.engine.Progress.{Progress}
 use Rattle.mem_port.specs.declared.engine.Progress.TheVariants as progress
 use Rattle.mem_port.specs.Engine.{EngineView, IsSound}
-use Rattle.mem_port.specs.Pace.{Pace, after_clock}
-use Rattle.mem_port.specs.Side.{Mark, Unasked, Sent, Served, Shut, mark, SideView, KeepsSide, LeavesPort}
+use Rattle.mem_port.specs.ServiceHistory.{ServiceHistory, after_clock}
+use Rattle.mem_port.specs.Side.{PortPhase, Unasked, Sent, Served, Shut, port_phase, SideView, KeepsSide, LeavesPort}
 use Rattle.core_run.specs.declared.lane.Lane.{Lane}
 use Rattle.core_run.specs.declared.lane.Came.{Came}
 use Rattle.core_run.specs.Cycle.{wait_left}
@@ -26,13 +26,13 @@ pub record HasCome (e : EngineView) (accesses : List Entry) : Type 0 where
 pub record SideSends (p : Port) (r : Request) (old new : SideView) : Type 0 where
   pub kept : KeepsSide old new
   pub other : LeavesPort p old new
-  pub port : mark (new.port p) ≡ Served r
+  pub port : port_phase (new.port p) ≡ Served r
   pub asks : new.asks_left p + 1 ≡ old.asks_left p
   pub taken : new.taken ≡ old.taken
-  pub patience : IsTrue old.tells_distances → new.patience p ≤ old.bound
+  pub remaining_wait : IsTrue old.tells_distances → new.remaining_wait p ≤ old.bound
 
 -- Where a port of a core is open, what is wanted was served there; else nothing was asked.
-abbrev pub PortHolds : Bool → Mark → Option Request → Type 0
+abbrev pub PortHolds : Bool → PortPhase → Option Request → Type 0
 PortHolds true port None = ⊥
 PortHolds true port (Some r) = port ≡ Served r
 PortHolds false port want = port ≡ Unasked
@@ -43,8 +43,8 @@ pub record IsCoupled (e : EngineView) (s : SideView) (lane : Lane) : Type 0 wher
   pub image : e.image ≡ s.image
   pub cores : e.cores ≡ s.cores
   pub sound : IsSound e
-  pub fetch : PortHolds lane.open_fetch (mark (s.port (Fetch lane.core))) (option_map fetch_of e.fetch)
-  pub access : PortHolds lane.open_access (mark (s.port (Access lane.core))) e.access
+  pub fetch : PortHolds lane.open_fetch (port_phase (s.port (Fetch lane.core))) (option_map fetch_of e.fetch)
+  pub access : PortHolds lane.open_access (port_phase (s.port (Access lane.core))) e.access
 
 -- An engine that isn't live has come to a stop.
 abbrev pub StopsWhereDead : EngineView → Type 0
@@ -61,7 +61,7 @@ Progressed progress.Running e = e.is_live ≡ true
 Progressed (progress.Stopped why) e = (e.is_live ≡ false) × (stop e.image e.state ≡ Some why)
 
 -- No request is on a port, and none was served.
-abbrev pub IsQuiet : Mark → Type 0
+abbrev pub IsQuiet : PortPhase → Type 0
 IsQuiet Unasked = Unit {0}
 IsQuiet (Sent r) = ⊥
 IsQuiet (Served r) = ⊥
@@ -72,8 +72,8 @@ pub record IsFinished (e : EngineView) (s : SideView) (core : ℕ) : Type 0 wher
   pub core_is : e.core ≡ core
   pub image : e.image ≡ s.image
   pub cores : e.cores ≡ s.cores
-  pub fetch : IsQuiet (mark (s.port (Fetch core)))
-  pub access : IsQuiet (mark (s.port (Access core)))
+  pub fetch : IsQuiet (port_phase (s.port (Fetch core)))
+  pub access : IsQuiet (port_phase (s.port (Access core)))
 
 -- No request is open.
 pub record IsClosed (lane : Lane) : Type 0 where
@@ -84,20 +84,20 @@ pub record IsClosed (lane : Lane) : Type 0 where
 abbrev pub bound_of : SideView → Option ℕ
 bound_of s = if s.tells_distances then Some s.bound else None
 
--- A pace that is no tighter than a side: each want may stay unmet for as long at least as its request may wait.
-pub record IsNoTighter (pace : Pace) (s : SideView) (lane : Lane) : Type 0 where
-  pub bound : pace.bound ≡ bound_of s
-  pub fetch : IsTrue s.tells_distances → wait_left lane.open_fetch (s.patience (Fetch lane.core)) s.bound ≤ pace.fetch_left
-  pub access : IsTrue s.tells_distances → wait_left lane.open_access (s.patience (Access lane.core)) s.bound ≤ pace.access_left
+-- A history that is no tighter than a side: each want may stay unmet for as long at least as its request may wait.
+pub record IsNoTighter (history : ServiceHistory) (s : SideView) (lane : Lane) : Type 0 where
+  pub bound : history.bound ≡ bound_of s
+  pub fetch : IsTrue s.tells_distances → wait_left lane.open_fetch (s.remaining_wait (Fetch lane.core)) s.bound ≤ history.fetch_left
+  pub access : IsTrue s.tells_distances → wait_left lane.open_access (s.remaining_wait (Access lane.core)) s.bound ≤ history.access_left
 
--- The pace behind a cycle of an engine, with what came and the side and the lane behind it.
-abbrev pub pace_after : Came → EngineView → SideView → Lane → Pace → Pace
-pace_after came e s lane pace = record {
-  service = after_clock came.fetched came.reply e pace.service;
-  bound = pace.bound;
-  fetch_left = wait_left lane.open_fetch (s.patience (Fetch lane.core)) s.bound;
-  access_left = wait_left lane.open_access (s.patience (Access lane.core)) s.bound;
-  is_drained = pace.is_drained;
+-- The history behind a cycle of an engine, with what came and the side and the lane behind it.
+abbrev pub history_after : Came → EngineView → SideView → Lane → ServiceHistory → ServiceHistory
+history_after came e s lane history = record {
+  service = after_clock came.fetched came.reply e history.service;
+  bound = history.bound;
+  fetch_left = wait_left lane.open_fetch (s.remaining_wait (Fetch lane.core)) s.bound;
+  access_left = wait_left lane.open_access (s.remaining_wait (Access lane.core)) s.bound;
+  is_drained = history.is_drained;
 }
 
 -- An engine at its start.

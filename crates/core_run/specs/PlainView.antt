@@ -7,7 +7,7 @@ use Rattle.access_log.specs.declared.Entry.{Entry}
 use Rattle.access_log.specs.Stamps.{Stamp}
 use Rattle.mem_port.specs.Loaded.{on_code}
 use Rattle.mem_port.specs.Engine.{EngineView, IsSound}
-use Rattle.mem_port.specs.Pace.{Pace}
+use Rattle.mem_port.specs.ServiceHistory.{ServiceHistory}
 use Rattle.core_run.specs.declared.plain.Phase.{Phase}
 use Rattle.core_run.specs.declared.plain.Phase.TheVariants.{Begin, Access, Stopped, GivenUp, FoundDone}
 
@@ -79,20 +79,22 @@ in_own_cycles earlier (entry ∷ entries) =
     record { entry = entry; cycle = entry.nth + earlier + 2 } ∷ in_own_cycles (earlier + 1) entries
 
 -- Where no answer comes later than it could have, no want stays unmet.
-pub record IsPrompt (pace : Pace) : Type 0 where
-  pub unmet : pace.service.unmet ≡ 0
-  pub fetch_left : pace.fetch_left ≤ 0
-  pub access_left : pace.access_left ≤ 0
+pub record IsUnstalled (history : ServiceHistory) : Type 0 where
+  pub unmet : history.service.unmet ≡ 0
+  pub fetch_left : history.fetch_left ≤ 0
+  pub access_left : history.access_left ≤ 0
 
--- What it tells of its times, at every pace.
-pub record IsPlainPace (pace : Pace) (e : EngineView) (phase : Phase) : Type 0 where
+-- What it tells of its times, however it was served.
+pub record IsPlainHistory (history : ServiceHistory) (e : EngineView) (phase : Phase) : Type 0 where
   -- It has used a clock for each instruction, a second one for each access, one for what is under way, and those in which a
   -- want stayed unmet.
-  pub clocks : pace.service.clocks + left_out phase ≡ e.executed + length pace.service.accesses + under_way phase + pace.service.unmet
-  pub words : pace.service.words ≤ e.executed + under_way phase
-  pub accesses : length pace.service.accesses ≤ e.executed
+  pub clocks : history.service.clocks + left_out phase ≡ e.executed + length history.service.accesses + under_way phase
+      + history.service.unmet
+  pub words : history.service.words ≤ e.executed + under_way phase
+  pub accesses : length history.service.accesses ≤ e.executed
   -- Where no want stayed unmet, it made each access in its cycle.
-  pub cycles : pace.service.unmet ≡ 0 → pace.service.accesses ≡ in_own_cycles 0 (map (λ (stamp : Stamp). stamp.entry) pace.service.accesses)
-  pub prompt : pace.bound ≡ Some 0 → IsPrompt pace
-  pub drained : pace.is_drained ≡ is_drained phase
+  pub cycles : history.service.unmet ≡ 0
+      → history.service.accesses ≡ in_own_cycles 0 (map (λ (stamp : Stamp). stamp.entry) history.service.accesses)
+  pub unstalled : history.bound ≡ Some 0 → IsUnstalled history
+  pub drained : history.is_drained ≡ is_drained phase
   pub sound : IsSound e

@@ -3,11 +3,11 @@ ghost use Rattle.std.specs.Prelude.{◌≡◌, ◌≤◌, ◌||◌, ℕ, true, f
 ghost use Rattle.access_log.specs.declared.request.Request.{Request};
 ghost use Rattle.access_log.specs.Requests.{fetch_of};
 ghost use Rattle.mem_port.specs.Engine.{IsSound};
-ghost use Rattle.mem_port.specs.Pace.{is_unmet};
+ghost use Rattle.mem_port.specs.ServiceHistory.{is_unmet};
 ghost use Rattle.mem_port.specs.declared.port.PortState.TheVariants.{Free};
 ghost use Rattle.mem_port.specs.declared.port.Withdrawal.{Withdrawal};
 ghost use Rattle.mem_port.specs.Ports.{core_of, MayAsk};
-ghost use Rattle.mem_port.specs.Side.{KeepsSide, mark};
+ghost use Rattle.mem_port.specs.Side.{KeepsSide, port_phase};
 ghost use Rattle.core_run.specs.declared.lane.Came.{Came};
 ghost use Rattle.core_run.specs.Cycle.{IsCycle, IsEnding, IsDrained, sends, opens, takes, steps, cycle_calls, lane_after, moved_in, withdraws};
 ghost use Rattle.core_run.specs.Lanes.{HasCome, IsCoupled, SideSends, HasAsks, PortHolds, Progressed, IsFinished, StopsWhereDead, IsClosed};
@@ -64,7 +64,7 @@ fn send<S: CoreSide>(side: &mut S, port: Port, request: Request)
 /// Asks and serves what is wanted on a port, where nothing is open there.
 fn open_port<S: CoreSide>(side: &mut S, port: Port, is_open: bool, want: Option<Request>)
     requires serves { S.serves side.old (core_of port) }
-    requires holds { PortHolds is_open (mark ((S.view side.old (core_of port)).port port)) want }
+    requires holds { PortHolds is_open (port_phase ((S.view side.old (core_of port)).port port)) want }
     requires left { is_open ≡ false → 1 ≤ (S.view side.old (core_of port)).asks_left port }
     requires proper { (r : Request) → want ≡ Some r → MayAsk (S.view side.old (core_of port)).image port r }
     ensures made { Makes S.serves S.makes S.leaves_others S.paid (core_of port) (sends port (opens is_open want)) 0 side.old side.new }
@@ -82,7 +82,7 @@ fn open_port<S: CoreSide>(side: &mut S, port: Port, is_open: bool, want: Option<
 /// Takes the answer to what is wanted on a port, where it is open.
 fn take_answer<S: CoreSide>(side: &mut S, port: Port, want: Option<Request>) -> Option<u32>
     requires serves { S.serves side.old (core_of port) }
-    requires holds { PortHolds (is_some want) (mark ((S.view side.old (core_of port)).port port)) want }
+    requires holds { PortHolds (is_some want) (port_phase ((S.view side.old (core_of port)).port port)) want }
     ensures made { Makes S.serves S.makes S.leaves_others S.paid (core_of port) (takes port want result) 0 side.old side.new }
     ensures met { TakesUp port want result (S.view side.old (core_of port)) (S.view side.new (core_of port)) }
 {
@@ -180,9 +180,9 @@ pub fn cycle<E: CoreEngine, S: CoreSide>(
 /// is no answer.
 fn close_port<S: CoreSide>(side: &mut S, port: Port, is_open: bool) -> Withdrawal
     requires serves { S.serves side.old (core_of port) }
-    requires holds { (want : Option Request) × PortHolds is_open (mark ((S.view side.old (core_of port)).port port)) want }
+    requires holds { (want : Option Request) × PortHolds is_open (port_phase ((S.view side.old (core_of port)).port port)) want }
     ensures made { Makes S.serves S.makes S.leaves_others S.paid (core_of port) (withdraws is_open port result) 0 side.old side.new }
-    ensures met { (want : Option Request) → PortHolds is_open (mark ((S.view side.old (core_of port)).port port)) want
+    ensures met { (want : Option Request) → PortHolds is_open (port_phase ((S.view side.old (core_of port)).port port)) want
         → Closes port is_open want result (S.view side.old (core_of port)) (S.view side.new (core_of port)) }
 {
     if !is_open {

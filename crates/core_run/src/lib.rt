@@ -2,10 +2,10 @@
 //!
 //! Laws that crates above cite:
 //!
-//! - `proofs/CycleLaws`: the pace at which a core's cycle serves its engine, and that it is no tighter
+//! - `proofs/CycleLaws`: the history by which a core's cycle serves its engine, and that it is no tighter
 //!   than the side behind it; where answers come at once, nothing is open behind it.
 //! - `proofs/DoneLaws`: what cores that have ended did is a run of the sequential machine.
-//! - `proofs/EndLaws`: the end that a cycle makes is one of its core, and the pace at which its engine
+//! - `proofs/EndLaws`: the end that a cycle makes is one of its core, and the history by which its engine
 //!   is served behind it.
 //! - `proofs/LeadLaws`: calls behind others lead on, and calls on what holds a memory are calls on it.
 //! - `proofs/PlainEndLaws`: the end of an unpipelined core whose answers all came at once is right.
@@ -21,8 +21,8 @@ mod timed;
 
 pub use lane::{Lane, cycle, finish};
 pub use plain::Plain;
-pub use run::{plain_seats, run_serial};
-pub use serial::{Seat, run_seats};
+pub use run::{plain_slots, run_serial};
+pub use serial::{CoreSlot, run_slots};
 pub use side::CoreSide;
 pub use std::alloc::AllocError as NoMemory;
 pub use timed::TimedEngine;

@@ -2,9 +2,9 @@
 ghost use Rattle.std.specs.Prelude.{◌≡◌, ◌<◌, ◌+◌, ◌^◌, []};
 ghost use Rattle.mem_port.specs.Loaded.{on_code, next_in, finish};
 ghost use Rattle.core_run.specs.Lanes.{IsStarted};
-ghost use Rattle.mem_port.specs.Pace.{Pace, IsFirstPace};
+ghost use Rattle.mem_port.specs.ServiceHistory.{ServiceHistory, IsFirstHistory};
 ghost use Rattle.core_run.specs.PlainUses.{plain-uses};
-ghost use Rattle.core_run.specs.PlainView.{plain_view, IsPlainPace, under_way};
+ghost use Rattle.core_run.specs.PlainView.{plain_view, IsPlainHistory, under_way};
 
 use crate::TimedEngine;
 use access_log::Request;
@@ -48,7 +48,7 @@ impl<'a> Plain<'a> {
     pub fn new(image: &'a Image, core: u32, cores: u32) -> Plain<'a>
         ensures starts { IsStarted image.now core cores (⟦<Plain<'static> as CoreEngine>⟧.view result) }
         ensures clocks { (⟦<Plain<'static> as CoreEngine>⟧.view result).clocks_left ≡ 4294967295 }
-        ensures timed { (pace : Pace) → IsFirstPace pace → ⟦<Plain<'static> as CoreEngine>⟧.timed pace result }
+        ensures timed { (history : ServiceHistory) → IsFirstHistory history → ⟦<Plain<'static> as CoreEngine>⟧.timed history result }
     {
         Plain {
             image,
@@ -88,9 +88,9 @@ fn finished(image: &Image, state: &CoreState, old: u32) -> CoreState
 impl CoreEngine for Plain<'_> {
     ghost view = { λ e. plain_view e.image.now e.core e.cores e.state e.executed e.phase e.clocks_left };
 
-    ghost timed = { λ pace e. IsPlainPace pace (plain_view e.image.now e.core e.cores e.state e.executed e.phase e.clocks_left) e.phase };
+    ghost timed = { λ history e. IsPlainHistory history (plain_view e.image.now e.core e.cores e.state e.executed e.phase e.clocks_left) e.phase };
 
-    ghost uses = { λ pace e h. plain-uses pace (plain_view e.image.now e.core e.cores e.state e.executed e.phase e.clocks_left) e.phase h };
+    ghost uses = { λ history e h. plain-uses history (plain_view e.image.now e.core e.cores e.state e.executed e.phase e.clocks_left) e.phase h };
 
     fn want_fetch(&self) -> Option<u32> {
         match self.phase {

@@ -7,35 +7,35 @@ ghost use Rattle.kmp_base.specs.declared.setup.Turns.TheVariants as turns;
 ghost use Rattle.access_log.specs.Items.{entries};
 ghost use Rattle.right_run.specs.Right.{IsRight};
 ghost use Rattle.right_run.specs.Turns.{IsInTurns};
-ghost use Rattle.mem_port.specs.Pace.{Pace, IsFirstPace};
+ghost use Rattle.mem_port.specs.ServiceHistory.{ServiceHistory, IsFirstHistory};
 ghost use Rattle.core_run.specs.Serial.{AreFirst};
 ghost use Rattle.core_run.specs.declared.plain.Plain.{Plain};
-ghost use Rattle.core_run.specs.declared.serial.Seat.{Seat};
+ghost use Rattle.core_run.specs.declared.serial.CoreSlot.{CoreSlot};
 
-use crate::{NoMemory, Plain, Seat, run_seats};
+use crate::{CoreSlot, NoMemory, Plain, run_slots};
 use image_file::Image;
 use kmp_base::Setup;
 use mem_port::{CoreEngine, FlatMemory};
 use std::alloc::Global;
 use timetable::Outcome;
 
-/// A seat for each of so many unpipelined cores, before its first turn. It fails only for want of memory.
-pub fn plain_seats<'a>(
+/// A slot for each of so many unpipelined cores, before its first turn. It fails only for want of memory.
+pub fn plain_slots<'a>(
     alloc: Global,
     image: &'a Image,
     cores: u32,
-) -> Result<Vec<Seat<Plain<'a>>>, NoMemory>
-    ensures count { IfOk result (λ seats. vec_len seats ≡ cores) }
-    ensures seats { IfOk result (λ seats. (budget : ℕ) → budget ≤ 4294967295
-        → AreFirst ⟦<Plain<'static> as CoreEngine>⟧.view image.now cores budget seats.items) }
-    ensures timed { IfOk result (λ seats. (core : ℕ) (s : Seat Plain) → slice_get seats.items core ≡ Some s
-        → (pace : Pace) → IsFirstPace pace → ⟦<Plain<'static> as CoreEngine>⟧.timed pace s.engine) }
+) -> Result<Vec<CoreSlot<Plain<'a>>>, NoMemory>
+    ensures count { IfOk result (λ slots. vec_len slots ≡ cores) }
+    ensures slots { IfOk result (λ slots. (budget : ℕ) → budget ≤ 4294967295
+        → AreFirst ⟦<Plain<'static> as CoreEngine>⟧.view image.now cores budget slots.items) }
+    ensures timed { IfOk result (λ slots. (core : ℕ) (s : CoreSlot Plain) → slice_get slots.items core ≡ Some s
+        → (history : ServiceHistory) → IsFirstHistory history → ⟦<Plain<'static> as CoreEngine>⟧.timed history s.engine) }
 {
-    let mut seats = Vec::with_capacity(alloc, cores as usize)?;
+    let mut slots = Vec::with_capacity(alloc, cores as usize)?;
     for core in 0..cores {
-        seats.push_reserved(Seat::new(Plain::new(image, core, cores), core));
+        slots.push_reserved(CoreSlot::new(Plain::new(image, core, cores), core));
     }
-    Ok(seats)
+    Ok(slots)
 }
 
 /// Runs an image to the ends of its cores, in turns. All memory is taken before the first cycle.
@@ -51,6 +51,6 @@ pub fn run_serial(alloc: Global, image: &Image, setup: &Setup) -> Result<Outcome
 {
     let memory = FlatMemory::new(alloc, image, setup.cores, setup.budget)?;
     let ends = Vec::with_capacity(alloc, setup.cores as usize)?;
-    let seats = plain_seats(alloc, image, setup.cores)?;
-    Ok(run_seats(alloc, memory, seats, ends, setup.budget))
+    let slots = plain_slots(alloc, image, setup.cores)?;
+    Ok(run_slots(alloc, memory, slots, ends, setup.budget))
 }

@@ -1,13 +1,15 @@
 //! Cores that take turns on one memory: in each round every core has one cycle, by rising number.
-ghost use Rattle.std.specs.Prelude.{◌≡◌, ◌≤◌, ◌+◌, ℕ, [], List, Some, None, vec_len, vec_capacity, slice_get, length};
+ghost use Rattle.std.specs.Prelude.{◌≡◌, ◌<◌, ◌≤◌, ◌+◌, ◌^◌, ℕ, [], List, Some, None, vec_len, vec_capacity, slice_get, length};
+ghost use Rattle.std.specs.List.{All};
 ghost use Rattle.timetable.specs.declared.CoreEnd.{CoreEnd};
 ghost use Rattle.timetable.specs.declared.End.{End};
+ghost use Rattle.timetable.specs.Outcome.{IsState};
 ghost use Rattle.mem_port.specs.Memory.{IsLawful, IsFresh, IsAtOnce, Keeps, Settles};
-ghost use Rattle.mem_port.specs.Pace.{Pace, IsFirstPace};
+ghost use Rattle.mem_port.specs.ServiceHistory.{ServiceHistory, IsFirstHistory};
 ghost use Rattle.mem_port.specs.Side.{LeavesOthers, ServesCore};
 ghost use Rattle.core_run.specs.Lanes.{IsClosed};
-ghost use Rattle.core_run.specs.Serial.{SeatAt, IsRun, AreAt, AreFirst, Leads, IsServedAt, Receives, AreServed, IsServedRun, IsEndOf, end_after};
-ghost use Rattle.core_run.specs.declared.serial.Seat.{Seat};
+ghost use Rattle.core_run.specs.Serial.{SlotAt, IsRun, AreAt, AreFirst, Leads, IsServedAt, Receives, AreServed, IsServedRun, IsEndOf, end_after};
+ghost use Rattle.core_run.specs.declared.serial.CoreSlot.{CoreSlot};
 
 use crate::lane::{cycle, finish};
 use crate::{Lane, TimedEngine};
@@ -15,9 +17,9 @@ use mem_port::{MemoryCore, Progress};
 use std::alloc::Global;
 use timetable::{CoreEnd, End, Outcome};
 
-/// One core's place in the round.
+/// One core's slot in the round.
 #[derive(Drop)]
-pub struct Seat<E> {
+pub struct CoreSlot<E> {
     pub engine: E,
     pub lane: Lane,
     /// The cycles that the core has had.
@@ -26,16 +28,16 @@ pub struct Seat<E> {
     pub end: Option<End>,
 }
 
-impl<E> Seat<E> {
-    /// The seat of a core before its first turn.
-    pub fn new(engine: E, core: u32) -> Seat<E>
+impl<E> CoreSlot<E> {
+    /// The slot of a core before its first turn.
+    pub fn new(engine: E, core: u32) -> CoreSlot<E>
         ensures engine { result.engine ≡ engine }
         ensures core { result.lane.core ≡ core }
         ensures closed { IsClosed result.lane }
         ensures no_end { result.end ≡ None }
         ensures no_cycle { result.cycles ≡ 0 }
     {
-        Seat {
+        CoreSlot {
             engine,
             lane: Lane::new(core),
             cycles: 0,
@@ -55,126 +57,143 @@ fn end_after(progress: Progress, cycles: u32, budget: u32) -> Option<End>
 }
 
 /// The turn of a core: one cycle, if it runs on, and its end, if that was the last one.
-fn play<E: TimedEngine, M: MemoryCore>(memory: &mut M, seat: &mut Seat<E>, budget: u32)
-    requires serves { ServesCore (M.view memory.old) seat.old.lane.core }
-    requires at { (rounds : ℕ) × SeatAt seat.old.lane.core rounds budget (M.view memory.old) (E.view seat.old.engine) seat.old.lane seat.old.end seat.old.cycles }
-    ensures serves { ServesCore (M.view memory.new) seat.old.lane.core }
-    ensures at { (rounds : ℕ) → SeatAt seat.old.lane.core rounds budget (M.view memory.old) (E.view seat.old.engine) seat.old.lane seat.old.end seat.old.cycles
-        → SeatAt seat.old.lane.core (rounds + 1) budget (M.view memory.new) (E.view seat.new.engine) seat.new.lane seat.new.end seat.new.cycles }
-    ensures others { LeavesOthers seat.old.lane.core (M.view memory.old) (M.view memory.new) }
+fn play<E: TimedEngine, M: MemoryCore>(memory: &mut M, slot: &mut CoreSlot<E>, budget: u32)
+    requires serves { ServesCore (M.view memory.old) slot.old.lane.core }
+    requires at { (rounds : ℕ) × SlotAt slot.old.lane.core rounds budget (M.view memory.old) (E.view slot.old.engine) slot.old.lane slot.old.end slot.old.cycles }
+    ensures serves { ServesCore (M.view memory.new) slot.old.lane.core }
+    ensures at { (rounds : ℕ) → SlotAt slot.old.lane.core rounds budget (M.view memory.old) (E.view slot.old.engine) slot.old.lane slot.old.end slot.old.cycles
+        → SlotAt slot.old.lane.core (rounds + 1) budget (M.view memory.new) (E.view slot.new.engine) slot.new.lane slot.new.end slot.new.cycles }
+    ensures others { LeavesOthers slot.old.lane.core (M.view memory.old) (M.view memory.new) }
     ensures made { Leads M.makes memory.old memory.new }
-    ensures ended { (end : End) → seat.old.end ≡ Some end → memory.new ≡ memory.old }
-    ensures served { (rounds : ℕ) (pace : Pace)
-        → SeatAt seat.old.lane.core rounds budget (M.view memory.old) (E.view seat.old.engine) seat.old.lane seat.old.end seat.old.cycles
-        → IsServedAt E.view E.timed (M.view memory.old) seat.old.engine seat.old.lane seat.old.end seat.old.cycles pace
-        → (after : Pace) × (IsServedAt E.view E.timed (M.view memory.new) seat.new.engine seat.new.lane seat.new.end seat.new.cycles after
-        × (IsAtOnce (M.view memory.old) → Receives seat.old.lane.core (rounds + 1) (M.view memory.old).history (M.view memory.new).history pace after)) }
+    ensures ended { (end : End) → slot.old.end ≡ Some end → memory.new ≡ memory.old }
+    ensures served { (rounds : ℕ) (history : ServiceHistory)
+        → SlotAt slot.old.lane.core rounds budget (M.view memory.old) (E.view slot.old.engine) slot.old.lane slot.old.end slot.old.cycles
+        → IsServedAt E.view E.timed (M.view memory.old) slot.old.engine slot.old.lane slot.old.end slot.old.cycles history
+        → (after : ServiceHistory) × (IsServedAt E.view E.timed (M.view memory.new) slot.new.engine slot.new.lane slot.new.end slot.new.cycles after
+        × (IsAtOnce (M.view memory.old) → Receives slot.old.lane.core (rounds + 1) (M.view memory.old).history (M.view memory.new).history history after)) }
 {
-    if seat.end.is_some() {
+    if slot.end.is_some() {
         return;
     }
     let mut side = memory;
-    let progress = cycle(&mut seat.engine, &mut side, &mut seat.lane, 0);
-    seat.cycles += 1;
-    let Some(end) = end_after(progress, seat.cycles, budget) else {
+    let progress = cycle(&mut slot.engine, &mut side, &mut slot.lane, 0);
+    slot.cycles += 1;
+    let Some(end) = end_after(progress, slot.cycles, budget) else {
         return;
     };
-    finish(&mut seat.engine, &mut side, &mut seat.lane);
-    seat.end = Some(end);
+    finish(&mut slot.engine, &mut side, &mut slot.lane);
+    slot.end = Some(end);
 }
 
 /// One round: the turn of each core, by rising number.
-fn play_round<E: TimedEngine, M: MemoryCore>(memory: &mut M, seats: &mut Vec<Seat<E>>, budget: u32)
+fn play_round<E: TimedEngine, M: MemoryCore>(
+    memory: &mut M,
+    slots: &mut Vec<CoreSlot<E>>,
+    budget: u32,
+)
     requires lawful { IsLawful (M.view memory.old) }
-    requires cores { vec_len seats.old ≡ (M.view memory.old).cores }
-    requires seats { (rounds : ℕ) × AreAt E.view rounds budget (M.view memory.old) seats.old.items }
+    requires cores { vec_len slots.old ≡ (M.view memory.old).cores }
+    requires slots { (rounds : ℕ) × AreAt E.view rounds budget (M.view memory.old) slots.old.items }
     ensures lawful { IsLawful (M.view memory.new) }
-    ensures cores { vec_len seats.new ≡ vec_len seats.old }
-    ensures seats { (rounds : ℕ)
-        → AreAt E.view rounds budget (M.view memory.old) seats.old.items
-        → AreAt E.view (rounds + 1) budget (M.view memory.new) seats.new.items }
+    ensures cores { vec_len slots.new ≡ vec_len slots.old }
+    ensures slots { (rounds : ℕ)
+        → AreAt E.view rounds budget (M.view memory.old) slots.old.items
+        → AreAt E.view (rounds + 1) budget (M.view memory.new) slots.new.items }
     ensures kept { Keeps (M.view memory.old) (M.view memory.new) }
     ensures made { Leads M.makes memory.old memory.new }
-    ensures served { (rounds : ℕ) (paces : ℕ → Pace)
-        → AreAt E.view rounds budget (M.view memory.old) seats.old.items
-        → AreServed E.view E.timed rounds 0 (M.view memory.old) seats.old.items paces
-        → (after : ℕ → Pace) × AreServed E.view E.timed (rounds + 1) 0 (M.view memory.new) seats.new.items after }
+    ensures served { (rounds : ℕ) (histories : ℕ → ServiceHistory)
+        → AreAt E.view rounds budget (M.view memory.old) slots.old.items
+        → AreServed E.view E.timed rounds 0 (M.view memory.old) slots.old.items histories
+        → (after : ℕ → ServiceHistory) × AreServed E.view E.timed (rounds + 1) 0 (M.view memory.new) slots.new.items after }
 {
-    for place in 0..seats.len() {
-        let seat = &mut seats[place];
-        play(memory, seat, budget);
+    for index in 0..slots.len() {
+        let slot = &mut slots[index];
+        play(memory, slot, budget);
     }
 }
 
 /// As many rounds as the budget has cycles.
-fn play_all<E: TimedEngine, M: MemoryCore>(memory: &mut M, seats: &mut Vec<Seat<E>>, budget: u32)
+fn play_all<E: TimedEngine, M: MemoryCore>(
+    memory: &mut M,
+    slots: &mut Vec<CoreSlot<E>>,
+    budget: u32,
+)
     requires lawful { IsLawful (M.view memory.old) }
-    requires cores { vec_len seats.old ≡ (M.view memory.old).cores }
-    requires seats { AreAt E.view 0 budget (M.view memory.old) seats.old.items }
+    requires cores { vec_len slots.old ≡ (M.view memory.old).cores }
+    requires slots { AreAt E.view 0 budget (M.view memory.old) slots.old.items }
     ensures lawful { IsLawful (M.view memory.new) }
-    ensures cores { vec_len seats.new ≡ vec_len seats.old }
-    ensures seats { AreAt E.view budget budget (M.view memory.new) seats.new.items }
+    ensures cores { vec_len slots.new ≡ vec_len slots.old }
+    ensures slots { AreAt E.view budget budget (M.view memory.new) slots.new.items }
     ensures kept { Keeps (M.view memory.old) (M.view memory.new) }
     ensures made { Leads M.makes memory.old memory.new }
-    ensures served { (paces : ℕ → Pace)
-        → AreServed E.view E.timed 0 0 (M.view memory.old) seats.old.items paces
-        → (after : ℕ → Pace) × AreServed E.view E.timed budget 0 (M.view memory.new) seats.new.items after }
+    ensures served { (histories : ℕ → ServiceHistory)
+        → AreServed E.view E.timed 0 0 (M.view memory.old) slots.old.items histories
+        → (after : ℕ → ServiceHistory) × AreServed E.view E.timed budget 0 (M.view memory.new) slots.new.items after }
 {
     for _ in 0..budget {
-        play_round(memory, seats, budget);
+        play_round(memory, slots, budget);
     }
 }
 
-/// What the seat of a core that has ended tells of its end.
-fn end_of<E: TimedEngine>(alloc: Global, seat: Seat<E>) -> CoreEnd
-    requires over { (end : End) × (seat.end ≡ Some end) }
-    ensures end { IsEndOf (E.view seat.engine) (E.rows seat.engine) seat.end seat.cycles result }
+/// A list of words has words of 32 bits, by its type.
+fn words_fit(words: &[u32])
+    ensures { All (λ word. word < 2 ^ 32) words.now }
+{}
+
+/// What the slot of a core that has ended tells of its end.
+fn end_of<E: TimedEngine>(alloc: Global, slot: CoreSlot<E>) -> CoreEnd
+    requires over { (end : End) × (slot.end ≡ Some end) }
+    ensures end { IsEndOf (E.view slot.engine) (E.rows slot.engine) slot.end slot.cycles result }
+    ensures state { IsState result.state }
 {
-    let Some(end) = seat.end else { unreachable!() };
+    let Some(end) = slot.end else { unreachable!() };
+    let state = slot.engine.state();
+    words_fit(&state.regs);
     CoreEnd {
         end,
-        cycles: seat.cycles,
-        retired: seat.engine.executed(),
-        state: seat.engine.state(),
-        rows: seat.engine.into_rows(alloc),
+        cycles: slot.cycles,
+        retired: slot.engine.executed(),
+        state,
+        rows: slot.engine.into_rows(alloc),
     }
 }
 
 /// The ends of cores that have ended, in order.
-fn gather<E: TimedEngine>(alloc: Global, seats: Vec<Seat<E>>, ends: &mut Vec<CoreEnd>)
-    requires over { (core : ℕ) (s : Seat E) → slice_get seats.items core ≡ Some s → (end : End) × (s.end ≡ Some end) }
-    requires room { vec_len seats ≤ vec_capacity ends.old }
+fn gather<E: TimedEngine>(alloc: Global, slots: Vec<CoreSlot<E>>, ends: &mut Vec<CoreEnd>)
+    requires over { (core : ℕ) (s : CoreSlot E) → slice_get slots.items core ≡ Some s → (end : End) × (s.end ≡ Some end) }
+    requires room { vec_len slots ≤ vec_capacity ends.old }
     requires empty { ends.old.items ≡ [] }
-    ensures count { length ends.new.items ≡ vec_len seats }
+    ensures count { length ends.new.items ≡ vec_len slots }
     ensures ends { (core : ℕ) (ended : CoreEnd) → slice_get ends.new.items core ≡ Some ended
-        → (s : Seat E) × ((slice_get seats.items core ≡ Some s) × IsEndOf (E.view s.engine) (E.rows s.engine) s.end s.cycles ended) }
+        → (s : CoreSlot E) × ((slice_get slots.items core ≡ Some s) × IsEndOf (E.view s.engine) (E.rows s.engine) s.end s.cycles ended) }
+    ensures states { All (λ ended. IsState ended.state) ends.new.items }
 {
-    for seat in seats {
-        ends.push_reserved(end_of(alloc, seat));
+    for slot in slots {
+        ends.push_reserved(end_of(alloc, slot));
     }
 }
 
 /// Runs all cores to their ends. It takes no memory: the list of ends comes with room for them.
-pub fn run_seats<E: TimedEngine, M: MemoryCore>(
+pub fn run_slots<E: TimedEngine, M: MemoryCore>(
     alloc: Global,
     mut memory: M,
-    mut seats: Vec<Seat<E>>,
+    mut slots: Vec<CoreSlot<E>>,
     mut ends: Vec<CoreEnd>,
     budget: u32,
 ) -> Outcome
     requires budget { 1 ≤ budget }
     requires fresh { IsFresh (M.view memory).image (M.view memory).cores budget (M.view memory).caches (M.view memory) }
-    requires cores { vec_len seats ≡ (M.view memory).cores }
-    requires seats { AreFirst E.view (M.view memory).image (M.view memory).cores budget seats.items }
-    requires room { vec_len seats ≤ vec_capacity ends }
+    requires cores { vec_len slots ≡ (M.view memory).cores }
+    requires slots { AreFirst E.view (M.view memory).image (M.view memory).cores budget slots.items }
+    requires room { vec_len slots ≤ vec_capacity ends }
     requires empty { ends.items ≡ [] }
     ensures run { IsRun (M.view memory).image (M.view memory).cores budget (M.view memory).caches result }
     ensures made { (last : M) × (Leads M.makes memory last × Settles (M.view last) result.words result.items) }
-    ensures served { ((core : ℕ) (s : Seat E) → slice_get seats.items core ≡ Some s → (pace : Pace) → IsFirstPace pace → E.timed pace s.engine)
-        → (paces : ℕ → Pace) × IsServedRun E.view E.rows E.timed (M.view memory) budget result paces }
+    ensures served { ((core : ℕ) (s : CoreSlot E) → slice_get slots.items core ≡ Some s → (history : ServiceHistory) → IsFirstHistory history → E.timed history s.engine)
+        → (histories : ℕ → ServiceHistory) × IsServedRun E.view E.rows E.timed (M.view memory) budget result histories }
 {
-    play_all(&mut memory, &mut seats, budget);
-    gather(alloc, seats, &mut ends);
+    play_all(&mut memory, &mut slots, budget);
+    gather(alloc, slots, &mut ends);
     let (words, history) = memory.settle();
     Outcome {
         cores: ends,

@@ -5,7 +5,7 @@ ghost use Rattle.access_log.specs.declared.request.Request.{Request};
 ghost use Rattle.mem_port.specs.declared.port.PortState.TheVariants.{Free, Asked};
 ghost use Rattle.mem_port.specs.Ports.{core_of, MayAsk};
 ghost use Rattle.mem_port.specs.Calls.{Call, Ask, Serve, Step, Take, Withdraw};
-ghost use Rattle.mem_port.specs.Side.{SideView, Served, mark, Holds, SideAsks, SideServes, SideSteps, SideTakes, SideWithdraws, LeavesOthers, Paid, steps_in, ServesCore, side_of};
+ghost use Rattle.mem_port.specs.Side.{SideView, Served, port_phase, Holds, SideAsks, SideServes, SideSteps, SideTakes, SideWithdraws, LeavesOthers, Paid, steps_in, ServesCore, side_of};
 ghost use Rattle.mem_port.proofs.SideLaws.{stays-view, goes_on-view, leaves-paid, paid-twice};
 
 use access_log::Request;
@@ -64,20 +64,20 @@ pub trait CoreSide {
     /// Takes the answer to the request that was served on a port, if it is there.
     fn take(&mut self, port: Port) -> Option<u32>
         requires serves { serves self.old (core_of port) }
-        requires served { (r : Request) × (mark ((view self.old (core_of port)).port port) ≡ Served r) }
+        requires served { (r : Request) × (port_phase ((view self.old (core_of port)).port port) ≡ Served r) }
         ensures serves { serves self.new (core_of port) }
         ensures made { makes (Take port result) self.old self.new }
-        ensures takes { (r : Request) → mark ((view self.old (core_of port)).port port) ≡ Served r → SideTakes result port r (view self.old (core_of port)) (view self.new (core_of port)) }
+        ensures takes { (r : Request) → port_phase ((view self.old (core_of port)).port port) ≡ Served r → SideTakes result port r (view self.old (core_of port)) (view self.new (core_of port)) }
         ensures others { leaves_others (core_of port) self.old self.new }
         ensures paid { paid (core_of port) 0 self.old self.new };
 
     /// Closes a port with its request.
     fn withdraw(&mut self, port: Port) -> Withdrawal
         requires serves { serves self.old (core_of port) }
-        requires opened { (r : Request) × Holds (mark ((view self.old (core_of port)).port port)) r }
+        requires opened { (r : Request) × Holds (port_phase ((view self.old (core_of port)).port port)) r }
         ensures serves { serves self.new (core_of port) }
         ensures made { makes (Withdraw port result) self.old self.new }
-        ensures withdraws { (r : Request) → Holds (mark ((view self.old (core_of port)).port port)) r → SideWithdraws result port r (view self.old (core_of port)) (view self.new (core_of port)) }
+        ensures withdraws { (r : Request) → Holds (port_phase ((view self.old (core_of port)).port port)) r → SideWithdraws result port r (view self.old (core_of port)) (view self.new (core_of port)) }
         ensures others { leaves_others (core_of port) self.old self.new }
         ensures paid { paid (core_of port) 0 self.old self.new };
 

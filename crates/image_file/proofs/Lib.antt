@@ -2,6 +2,7 @@ pub mod StartLaws
 pub mod SpellingLaws
 pub mod CodeLaws
 pub mod WordLaws
+pub mod NumberLaws
+pub mod RoundTripLaws
 pub mod ReadingLemmas
 pub mod ReadingLaws
-pub mod SpellingIsRead

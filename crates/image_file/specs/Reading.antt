@@ -1,5 +1,6 @@
 -- What bytes mean as an image, or their first fault.
-use Rattle.std.specs.Prelude.{◌≡◌, ℕ, zero, suc, ◌+◌, ◌-◌, ◌*◌, ◌%◌, ◌^◌, Bool, true, false, not, ◌==◌, ◌&&◌, ◌||◌, nat_le, if◌then◌else◌, List, [], ◌∷◌, length, Result, Ok, Err, is_some}
+use Rattle.std.specs.Prelude.{◌≡◌, ℕ, zero, suc, ◌+◌, ◌-◌, ◌*◌, ◌%◌, ◌^◌, Bool, true, false, not, ◌==◌, ◌&&◌, ◌||◌, nat_le, if◌then◌else◌}
+use Rattle.std.specs.Prelude.{List, [], ◌∷◌, length, Result, Ok, Err, is_some}
 use Rattle.std.specs.Int.{w32, from_le_bytes}
 use Rattle.kmp_base.specs.Bind.{◌>>=◌}
 use Rattle.mips_isa.specs.Fields.{instr_of}
@@ -7,8 +8,6 @@ use Rattle.image_file.specs.declared.fault.ImageCause.{ImageCause}
 use Rattle.image_file.specs.declared.fault.ImageCause.TheVariants.{BadMagic, Truncated, OddCode, BadWord, Overlap, DoesNotFit, Trailing}
 use Rattle.image_file.specs.declared.fault.ImageFault.{ImageFault}
 use Rattle.image_file.specs.declared.fault.ImageFault.TheVariants as faults
-use Rattle.image_file.specs.declared.field.FieldFault.{FieldFault}
-use Rattle.image_file.specs.declared.field.FieldFault.TheVariants as fields
 use Rattle.image_file.specs.Value.{ImageValue, SegmentValue}
 
 -- A fault of a field, and how many bytes are left from its first byte on.
@@ -117,13 +116,3 @@ abbrev pub Answers : Result ImageValue ImageFault → Result ImageValue Fault �
 Answers (Ok image) meaning = meaning ≡ Ok image
 Answers (Err faults.Memory) meaning = Unit {0}
 Answers (Err (faults.At cause byte)) meaning = meaning ≡ Err (cause, byte)
-
--- A function of a field fails as the meaning does, unless memory ran out.
-abbrev pub Fails : {Y : Type 0} → FieldFault → Result Y Fault → Type 0
-Fails fields.Memory meaning = Unit {0}
-Fails (fields.At cause left) meaning = meaning ≡ Err (cause, left)
-
--- What it returned, seen by view, is what the bytes mean, unless memory ran out.
-abbrev pub Gives : {X Y : Type 0} → (X → Y) → Result X FieldFault → Result Y Fault → Type 0
-Gives view (Ok x) meaning = meaning ≡ Ok (view x)
-Gives view (Err fault) meaning = Fails fault meaning

@@ -1,7 +1,7 @@
 -- What an image is, and the memory and the cores that it starts with.
 use Rattle.std.specs.Prelude.{◌≡◌, ℕ, ◌+◌, ◌-◌, ◌*◌, ◌/◌, ◌%◌, ◌^◌, ◌<◌, ◌≤◌, List, [], ◌∷◌, ◌++◌, length, map, replicate, flat_map}
 use Rattle.std.specs.Int.{w32, to_le_bytes}
-use Rattle.std.specs.List.{range_with_len}
+use Rattle.std.specs.List.{range_with_len, AllByRecursion}
 use Rattle.mips_isa.specs.declared.CoreState.{CoreState}
 use Rattle.mips_isa.specs.Steps.{IsCode, start}
 
@@ -44,6 +44,14 @@ image_numbers image =
 unfoldable pub image_bytes : ImageValue → List ℕ
 image_bytes image = flat_map (to_le_bytes w32) (image_numbers image)
 
+-- A number of four bytes.
+abbrev pub IsNumber : ℕ → Type 0
+IsNumber number = number < 2 ^ 32
+
+-- each word of a segment is one
+abbrev pub HasWords : SegmentValue → Type 0
+HasWords segment = AllByRecursion IsNumber segment.words
+
 -- Segments stand at multiples of 4, one behind the other from an address on, within so many bytes.
 abbrev pub AreApart : ℕ → ℕ → List SegmentValue → Type 0
 AreApart from bytes [] = from ≤ bytes
@@ -59,6 +67,7 @@ pub record IsGood (image : ImageValue) : Type 0 where
   pub code : IsCode image.code
   pub apart : AreApart (4 * length image.code) (memory_bytes image) image.segments
   pub few_bytes : length (image_bytes image) < 2 ^ 32
+  pub numbers : AllByRecursion IsNumber (image_numbers image)
 
 -- memory up to the end of a segment: zeros up to its start, and its words
 abbrev pub with_segment : List ℕ → SegmentValue → List ℕ

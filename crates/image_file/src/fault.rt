@@ -21,15 +21,29 @@ pub enum ImageCause {
 impl fmt::Display for ImageCause {
     fn fmt<W: fmt::Write>(&self, f: &mut fmt::Formatter<W>) -> fmt::Result {
         f.write_str(match self {
-            ImageCause::BadMagic => "this is no image",
-            ImageCause::Truncated => "the bytes end within a field",
-            ImageCause::OddCode => "there is no code, or an odd number of words",
-            ImageCause::BadWord => "the word spells no instruction",
-            ImageCause::Overlap => {
-                "the segment begins within the code or within the segment before"
+            ImageCause::BadMagic => {
+                "the input doesn't begin with KMP1, as an image does; a source is run without \
+                 --image"
             }
-            ImageCause::DoesNotFit => "the memory is too small or too large, or has no room",
-            ImageCause::Trailing => "bytes are left",
+            ImageCause::Truncated => {
+                "the input ends within the field that begins here; copy the whole image"
+            }
+            ImageCause::OddCode => {
+                "there is no code, or an odd number of words; the command asm adds a nop"
+            }
+            ImageCause::BadWord => {
+                "the word of code spells no instruction; compare it with docs/MACHINE.md"
+            }
+            ImageCause::Overlap => {
+                "the segment begins within the code, or within the segment before; order segments \
+                 by where they start"
+            }
+            ImageCause::DoesNotFit => {
+                "the memory has less than 2 or more than 2,097,152 lines, the code has more than \
+                 65,536 words or isn't within the memory, or the segment starts at no multiple of \
+                 4 or isn't within the memory; enlarge the memory"
+            }
+            ImageCause::Trailing => "bytes stand behind the image; cut them off",
         })
     }
 }

@@ -1,42 +1,23 @@
 //! The numbers that an image is made of, and what can be wrong with them.
 ghost use Rattle.std.specs.Prelude.{◌≡◌, not, ◌||◌, length, is_some, IfOk};
+ghost use Rattle.kmp_base.specs.declared.fault.Fault.TheVariants.{Cause};
+ghost use Rattle.kmp_base.specs.Gives.{Gives};
 ghost use Rattle.mips_isa.specs.Fields.{instr_of};
-ghost use Rattle.image_file.specs.declared.field.FieldFault.TheVariants as faults;
-ghost use Rattle.image_file.specs.Reading.{number_in, word_in, words_in, may_stand, Gives};
+ghost use Rattle.image_file.specs.Reading.{number_in, word_in, words_in, may_stand};
 
 use crate::ImageCause;
+use kmp_base::Fault;
 use mips_isa::words::decode;
-use std::alloc::{AllocError, AllocFailed, Global};
+use std::alloc::Global;
 
-/// Why a field is not read.
-#[derive(Clone, Copy)]
-pub enum FieldFault {
-    Memory,
-    /// The cause, and how many bytes are left from the first byte of the field on.
-    At(ImageCause, usize),
-}
-
-impl From<AllocError> for FieldFault {
-    ghost from_gives = { λ _ e. e ≡ faults.Memory };
-
-    fn from(_error: AllocError) -> FieldFault {
-        FieldFault::Memory
-    }
-}
-
-impl<T: Drop> From<AllocFailed<T>> for FieldFault {
-    ghost from_gives = { λ _ e. e ≡ faults.Memory };
-
-    fn from(_error: AllocFailed<T>) -> FieldFault {
-        FieldFault::Memory
-    }
-}
+/// What is wrong with a field, and how many bytes are left from its first byte on.
+pub type FieldFault = Fault<(ImageCause, usize)>;
 
 /// A fault of the field at the front.
 pub fn fault_at(cause: ImageCause, bytes: &[u8]) -> FieldFault
-    ensures value { result ≡ faults.At cause (length bytes.now) }
+    ensures value { result ≡ Cause (cause, length bytes.now) }
 {
-    FieldFault::At(cause, bytes.len())
+    Fault::Cause((cause, bytes.len()))
 }
 
 /// The number at the front, and the bytes behind it.

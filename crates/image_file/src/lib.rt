@@ -6,20 +6,19 @@
 //!
 //! - `proofs/SpellingLaws`: how long the spelling of an image is, and how it is put together.
 //! - `proofs/ReadingLaws`: only the spelling of a good image is read as an image.
+//! - `proofs/NumberLaws`: the numbers of an image have four bytes each.
+//! - `proofs/RoundTripLaws`: the spelling of a good image is read as that image.
 //! - `proofs/StartLaws`: how many words memory has at the start.
 #![tactic(auto)]
 
-mod copy;
 mod fault;
 mod field;
-pub mod laws;
 mod memory;
 mod read;
 mod spelling;
 mod start;
 mod write;
 
-pub use copy::copy_image;
 pub use fault::{ImageCause, ImageFault};
 pub use memory::{start_memory, word_at};
 pub use read::read_image;
@@ -46,7 +45,8 @@ impl Model for Segment {
 }
 
 /// A good program: an even number of words of code, from 2 to 65,536, each of them an instruction, and segments behind
-/// the code and behind each other, within a memory of 2 to 2,097,152 lines. Its spelling has fewer than 2^32 bytes.
+/// the code and behind each other, within a memory of 2 to 2,097,152 lines. Its spelling has fewer than 2^32 bytes, and is
+/// read as this image.
 #[derive(Drop)]
 pub struct Image {
     /// The size of memory in lines.
@@ -75,7 +75,7 @@ impl Model for Image {
     }) };
 }
 
-/// A list of words. Where it is a memory, place i is the word at address 4i.
+/// A list of words. Where it is a memory, index i is the word at address 4i.
 #[derive(Drop)]
 pub struct Words {
     pub words: Vec<u32>,

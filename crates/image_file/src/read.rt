@@ -1,11 +1,13 @@
 //! The image that bytes spell.
 ghost use Rattle.std.specs.Prelude.{◌≡◌, ◌+◌, ◌*◌, ◌^◌, ◌≤◌, length, IfOk};
+ghost use Rattle.kmp_base.specs.Gives.{Gives};
 ghost use Rattle.image_file.specs.Value.{image_bytes};
-ghost use Rattle.image_file.specs.Reading.{magic_in, lines_in, code_count_in, fits, segment_in, segments_in, image_in, image_meaning, Gives, Answers};
+ghost use Rattle.image_file.specs.Reading.{magic_in, lines_in, code_count_in, fits, segment_in, segments_in, image_in, image_meaning, Answers};
 
 use crate::field::{FieldFault, fault_at, number_in, words_in};
 use crate::spelling::MAGIC;
 use crate::{Image, ImageCause, ImageFault, Segment};
+use kmp_base::Fault;
 use std::alloc::Global;
 
 /// What stands behind the bytes `KMP1`.
@@ -132,8 +134,8 @@ pub fn read_image(alloc: Global, bytes: &[u8]) -> Result<Image, ImageFault>
 {
     match image_in(alloc, bytes) {
         Ok(image) => Ok(image),
-        Err(FieldFault::Memory) => Err(ImageFault::Memory),
-        Err(FieldFault::At(cause, left)) => {
+        Err(Fault::Memory) => Err(ImageFault::Memory),
+        Err(Fault::Cause((cause, left))) => {
             Err(ImageFault::At(cause, (bytes.len() - left) as u32))
         }
     }

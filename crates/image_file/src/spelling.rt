@@ -1,6 +1,7 @@
 //! The one spelling of an image.
-ghost use Rattle.std.specs.Prelude.{◌≡◌, [], ◌∷◌, ◌^◌, ◌<◌, length, sum_by, IfSome, IfNone};
+ghost use Rattle.std.specs.Prelude.{◌≡◌, [], ◌∷◌, ◌^◌, ◌<◌, length, sum_by, IfSome, IfNone, Ok};
 ghost use Rattle.image_file.specs.Value.{segment_size, image_numbers, image_bytes, IsGood};
+ghost use Rattle.image_file.specs.Reading.{image_meaning};
 
 use crate::{Image, Segment};
 use std::marker::Model;
@@ -28,9 +29,9 @@ pub fn image_size(image: &Image) -> u32
 /// The numbers of an image's spelling that are still to come.
 #[derive(Drop)]
 pub struct Spelling<'a> {
-    /// What stands before the words, from `place` on.
+    /// What stands before the words, from `index` on.
     fields: [u32; 4],
-    place: usize,
+    index: usize,
     /// The words of the code or of a segment.
     words: &'a [u32],
     /// The segments behind the words.
@@ -43,18 +44,19 @@ impl<'a> Model for Spelling<'a> {
 
     ghost Value = { List ℕ };
 
-    ghost view = { λ left. numbers_from (drop left.place left.fields) left.words.now left.segments.now };
+    ghost view = { λ left. numbers_from (drop left.index left.fields) left.words.now left.segments.now };
 
-    ghost invariant = { λ left. (left.place ≤ 4)
-        × (4 * length (numbers_from (drop left.place left.fields) left.words.now left.segments.now) < 2 ^ 32) };
+    ghost invariant = { λ left. (left.index ≤ 4)
+        × (4 * length (numbers_from (drop left.index left.fields) left.words.now left.segments.now) < 2 ^ 32) };
 }
 
 impl<'a> Spelling<'a> {
-    /// All numbers of an image's spelling.
+    /// All numbers of an image's spelling, which is read as that image.
     #[tactic(auto, using(crate::proofs::SpellingLaws::bytes_of_image, crate::proofs::SpellingLaws::few_segments))]
     pub fn new(image: &'a Image) -> Self
         ensures numbers { result ≡ image_numbers image.now }
         ensures good { IsGood image.now }
+        ensures read { image_meaning (image_bytes image.now) ≡ Ok image.now }
     {
         Spelling {
             fields: [
@@ -63,7 +65,7 @@ impl<'a> Spelling<'a> {
                 image.code.len() as u32,
                 image.segments.len() as u32,
             ],
-            place: 0,
+            index: 0,
             words: &image.code,
             segments: &image.segments,
         }
@@ -74,9 +76,9 @@ impl<'a> Spelling<'a> {
         ensures some { IfSome result (λ number. self.old ≡ number ∷ self.new) }
         ensures none { IfNone result ((self.old ≡ []) × (self.new ≡ [])) }
     {
-        if self.place < 4 {
-            let field = self.fields[self.place];
-            self.place += 1;
+        if self.index < 4 {
+            let field = self.fields[self.index];
+            self.index += 1;
             return Some(field);
         }
         if let Some((word, words)) = self.words.split_first() {
@@ -85,7 +87,7 @@ impl<'a> Spelling<'a> {
         }
         let (segment, segments) = self.segments.split_first()?;
         self.fields[3] = segment.words.len() as u32;
-        self.place = 3;
+        self.index = 3;
         self.words = &segment.words;
         self.segments = segments;
         Some(segment.start)

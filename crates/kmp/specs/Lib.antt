@@ -1,2 +1,4 @@
+pub mod Given
 pub mod Outcome
 pub mod Replay
+pub mod Told

@@ -2,6 +2,10 @@
 //! report.
 #![tactic(auto)]
 
+mod collected;
+mod ending;
+mod given;
+mod told;
 mod tool;
 mod verdict;
 
@@ -9,26 +13,14 @@ use kmp_base::{StdSink, StdSource};
 use std::env;
 use std::process::ExitCode;
 
-/// The status where the system refuses the words of the command line.
-const WORDS_UNREADABLE: u8 = 8;
-
-/// The status where no memory is left for them.
-const NO_MEMORY: u8 = 6;
-
 fn main(rt: HostRuntime) -> ExitCode {
-    let Ok(args) = env::args(&rt) else {
-        return ExitCode::from(WORDS_UNREADABLE);
-    };
-    let Ok(owned) = args.skip(1).collect::<Vec<String>>(rt.alloc()) else {
-        return ExitCode::from(NO_MEMORY);
-    };
-    let mut words = Vec::new(rt.alloc());
-    for word in &owned {
-        if words.push(word.as_str()).is_err() {
-            return ExitCode::from(NO_MEMORY);
-        }
-    }
+    let owned = given::given_words(rt.alloc(), env::args(&rt));
+    let words = given::texts(rt.alloc(), &owned);
+    told::tell_reading(&rt, &rt.stdin(), &words);
     let mut source = StdSource::new(rt.stdin());
-    let mut sink = StdSink::new(rt.stdout());
-    ExitCode::from(tool::tool(rt.alloc(), &words, &mut source, &mut sink))
+    let sink = StdSink::new(rt.stdout());
+    let (ending, _) = given::answer(rt.alloc(), &words, &mut source, sink);
+    told::tell_split(&rt, &ending.split);
+    told::tell_end(&rt, &words, ending.status);
+    ExitCode::from(ending.status.code())
 }

@@ -5,7 +5,7 @@ use Rattle.std.proofs.lemmas.List.Concat.{flat_map-append}
 use Rattle.std.specs.Prelude.{Option, Some, None, Result, Ok, Err}
 use Rattle.std.proofs.lemmas.List.{take-append-drop, take_at, drop-drop, take_more, flat_map_more}
 use Rattle.std.specs.Io.KnownBytes.{append_known, prepend_known}
-use Rattle.kmp_base.specs.Streams.{Appended, Took, Writes}
+use Rattle.kmp_base.specs.Streams.{Took, Writes}
 
 -- two appends are one
 pub append_known-append : (known : Option (List ℕ)) (a b : List ℕ) → append_known (append_known known a) b ≡ append_known known (a ++ b)
@@ -13,35 +13,29 @@ append_known-append None a b = refl
 append_known-append (Some xs) a b = ap Some (append_assoc xs a b)
 
 -- two texts in front are one
-pub prepend_known-prepend : (known : Option (List ℕ)) (a b : List ℕ) → prepend_known a (prepend_known b known) ≡ prepend_known (a ++ b) known
+pub prepend_known-prepend : (known : Option (List ℕ)) (a b : List ℕ)
+    → prepend_known a (prepend_known b known) ≡ prepend_known (a ++ b) known
 prepend_known-prepend None a b = refl
 prepend_known-prepend (Some xs) a b = ap Some (sym (append_assoc a b xs))
-
--- a front of the text was appended to what was held, and the rest wasn't
-abbrev pub AppendedUpTo : Option (List ℕ) → Option (List ℕ) → List ℕ → List ℕ → Type 0
-AppendedUpTo old new text rest = (part : List ℕ) × (text ≡ part ++ rest) × Appended old new part
-
--- one more piece of the rest was appended
-pub up_to_more : (old mid new : Option (List ℕ)) (text rest : List ℕ) (n : ℕ) → AppendedUpTo old mid text rest → Appended mid new (take n rest) → AppendedUpTo old new text (drop n rest)
-up_to_more old mid new text rest n before step = (
-  before.0 ++ take n rest,
-  before.1 ∙ ap (λ r. before.0 ++ r) (sym (take-append-drop n rest)) ∙ sym (append_assoc before.0 (take n rest) (drop n rest)),
-  step ∙ ap (λ known. append_known known (take n rest)) before.2 ∙ append_known-append old before.0 (take n rest),
-)
 
 -- more was taken
 pub took_more : (old mid new : Option (List ℕ)) (a b : List ℕ) → Took old mid a → Took mid new b → Took old new (a ++ b)
 took_more old mid new a b first second = first ∙ ap (prepend_known a) second ∙ prepend_known-prepend new a b
 
 -- the n bytes from a place, copied to the front of a buffer, and then the bytes after them
-pub next_bytes : (bytes copy rest : List ℕ) (at n : ℕ) → length copy ≡ n → copy ≡ take (at + n - at) (drop at bytes) → drop at bytes ≡ take n (copy ++ rest) ++ drop (at + n) bytes
+pub next_bytes : (bytes copy rest : List ℕ) (at n : ℕ) → length copy ≡ n → copy ≡ take (at + n - at) (drop at bytes)
+    → drop at bytes ≡ take n (copy ++ rest) ++ drop (at + n) bytes
 next_bytes bytes copy rest at n len is =
-    sym (take-append-drop n (drop at bytes)) ∙ ap (λ k. take k (drop at bytes) ++ drop n (drop at bytes)) (omega arith) ∙ ap (λ front. front ++ drop n (drop at bytes)) (sym is ∙ sym (take_at copy rest n len)) ∙ ap (λ after. take n (copy ++ rest) ++ after) (drop-drop n at bytes)
+    sym (take-append-drop n (drop at bytes)) ∙ ap (λ k. take k (drop at bytes) ++ drop n (drop at bytes)) (omega arith)
+    ∙ ap (λ front. front ++ drop n (drop at bytes)) (sym is ∙ sym (take_at copy rest n len))
+    ∙ ap (λ after. take n (copy ++ rest) ++ after) (drop-drop n at bytes)
 
 -- Calls that append one after another.
 
 -- a text that was written whole, and then another one
-pub writes_then : {K T U E : Type 0} {held : K → Option (List ℕ)} {faults : K → ℕ} {old mid new : K} {value : T} {result : Result U E} {a b : List ℕ} → Writes {E = E} held faults old mid (Ok value) a → Writes held faults mid new result b → Writes held faults old new result (a ++ b)
+pub writes_then : {K T U E : Type 0} {held : K → Option (List ℕ)} {faults : K → ℕ} {old mid new : K} {value : T} {result : Result U E}
+    {a b : List ℕ} → Writes {E = E} held faults old mid (Ok value) a → Writes held faults mid new result b
+    → Writes held faults old new result (a ++ b)
 writes_then {held} {old} {new} {result = Ok v} {a} {b} first second = record {
   whole = second.whole ∙ ap (λ known. append_known known b) first.whole ∙ append_known-append (held old) a b;
   no_fault = second.no_fault ∙ first.no_fault;
@@ -53,13 +47,20 @@ writes_then {held} {old} {new} {result = Err e} {a} {b} first second =
     let some = second.part in record {
       whole = tt;
       no_fault = tt;
-      part = (a ++ some.0, some.1, ap (λ rest. a ++ rest) some.2 ∙ sym (append_assoc a some.0 some.1), some.3 ∙ ap (λ known. append_known known some.0) first.whole ∙ append_known-append (held old) a some.0);
+      part = (
+        a ++ some.0,
+        some.1,
+        ap (λ rest. a ++ rest) some.2 ∙ sym (append_assoc a some.0 some.1),
+        some.3
+            ∙ ap (λ known. append_known known some.0) first.whole ∙ append_known-append (held old) a some.0,
+      );
       cause = omega (arith, first.no_fault, second.cause);
       later = omega (arith, first.later, second.later);
     }
 
 -- a text that wasn't written whole, before any further text
-pub writes_stop : {K U E : Type 0} {held : K → Option (List ℕ)} {faults : K → ℕ} {old new : K} {fault : E} {a : List ℕ} (b : List ℕ) → Writes {T = U} held faults old new (Err fault) a → Writes {T = U} held faults old new (Err fault) (a ++ b)
+pub writes_stop : {K U E : Type 0} {held : K → Option (List ℕ)} {faults : K → ℕ} {old new : K} {fault : E} {a : List ℕ} (b : List ℕ)
+    → Writes {T = U} held faults old new (Err fault) a → Writes {T = U} held faults old new (Err fault) (a ++ b)
 writes_stop {a} b stopped =
     let some = stopped.part in record {
       whole = tt;
@@ -72,25 +73,35 @@ writes_stop {a} b stopped =
 -- A loop that appends a text for each item.
 
 -- the texts of one item more
-pub flat_map_take : {X : Type 0} (f : X → List ℕ) (xs : List X) (i : ℕ) (d : X) → i < length xs → flat_map f (take (i + 1) xs) ≡ flat_map f (take i xs) ++ f (get_or xs i d)
+pub flat_map_take : {X : Type 0} (f : X → List ℕ) (xs : List X) (i : ℕ) (d : X) → i < length xs
+    → flat_map f (take (i + 1) xs) ≡ flat_map f (take i xs) ++ f (get_or xs i d)
 flat_map_take f xs i d below =
     ap (flat_map f) (take_more xs i d below) ∙ sym (flat_map_more f [] (take i xs) (get_or xs i d))
 
 -- the texts of the items up to one, of that one, and of those behind it
-pub flat_map_whole : {X : Type 0} (f : X → List ℕ) (xs : List X) (i : ℕ) (d : X) → i < length xs → flat_map f xs ≡ (flat_map f (take i xs) ++ f (get_or xs i d)) ++ flat_map f (drop (i + 1) xs)
+pub flat_map_whole : {X : Type 0} (f : X → List ℕ) (xs : List X) (i : ℕ) (d : X) → i < length xs
+    → flat_map f xs ≡ (flat_map f (take i xs) ++ f (get_or xs i d)) ++ flat_map f (drop (i + 1) xs)
 flat_map_whole f xs i d below =
-    ap (flat_map f) (sym (take-append-drop (i + 1) xs)) ∙ flat_map-append f (take (i + 1) xs) (drop (i + 1) xs) ∙ ap (λ t. t ++ flat_map f (drop (i + 1) xs)) (flat_map_take f xs i d below)
+    ap (flat_map f) (sym (take-append-drop (i + 1) xs)) ∙ flat_map-append f (take (i + 1) xs) (drop (i + 1) xs)
+    ∙ ap (λ t. t ++ flat_map f (drop (i + 1) xs)) (flat_map_take f xs i d below)
 
 -- one turn
-pub writes_next : {K T U E X : Type 0} {held : K → Option (List ℕ)} {faults : K → ℕ} {old mid new : K} {value : T} {next : U} {piece : List ℕ} (f : X → List ℕ) (xs : List X) (i : ℕ) (d : X) → i < length xs → piece ≡ f (get_or xs i d) → Writes {E = E} held faults old mid (Ok value) (flat_map f (take i xs)) → Writes {E = E} held faults mid new (Ok next) piece → Writes {E = E} held faults old new (Ok next) (flat_map f (take (i + 1) xs))
+pub writes_next : {K T U E X : Type 0} {held : K → Option (List ℕ)} {faults : K → ℕ} {old mid new : K} {value : T} {next : U}
+    {piece : List ℕ} (f : X → List ℕ) (xs : List X) (i : ℕ) (d : X) → i < length xs → piece ≡ f (get_or xs i d)
+    → Writes {E = E} held faults old mid (Ok value) (flat_map f (take i xs)) → Writes {E = E} held faults mid new (Ok next) piece
+    → Writes {E = E} held faults old new (Ok next) (flat_map f (take (i + 1) xs))
 writes_next f xs i d below is before turn =
     rw (flat_map_take f xs i d below, ← is) (writes_then before turn)
 
 -- the turn that fails
-pub writes_cut : {K T U E X : Type 0} {held : K → Option (List ℕ)} {faults : K → ℕ} {old mid new : K} {value : T} {fault : E} {piece : List ℕ} (f : X → List ℕ) (xs : List X) (i : ℕ) (d : X) → i < length xs → piece ≡ f (get_or xs i d) → Writes {E = E} held faults old mid (Ok value) (flat_map f (take i xs)) → Writes {T = U} held faults mid new (Err fault) piece → Writes {T = U} held faults old new (Err fault) (flat_map f xs)
+pub writes_cut : {K T U E X : Type 0} {held : K → Option (List ℕ)} {faults : K → ℕ} {old mid new : K} {value : T} {fault : E}
+    {piece : List ℕ} (f : X → List ℕ) (xs : List X) (i : ℕ) (d : X) → i < length xs → piece ≡ f (get_or xs i d)
+    → Writes {E = E} held faults old mid (Ok value) (flat_map f (take i xs)) → Writes {T = U} held faults mid new (Err fault) piece
+    → Writes {T = U} held faults old new (Err fault) (flat_map f xs)
 writes_cut f xs i d below is before turn =
     rw (flat_map_whole f xs i d below, ← is) (writes_stop (flat_map f (drop (i + 1) xs)) (writes_then before turn))
 
 -- the same text in another form
-pub writes_as : {K T E : Type 0} {held : K → Option (List ℕ)} {faults : K → ℕ} {old new : K} {result : Result T E} {a b : List ℕ} → a ≡ b → Writes held faults old new result a → Writes held faults old new result b
+pub writes_as : {K T E : Type 0} {held : K → Option (List ℕ)} {faults : K → ℕ} {old new : K} {result : Result T E} {a b : List ℕ} → a ≡ b
+    → Writes held faults old new result a → Writes held faults old new result b
 writes_as is written = rw (← is) written

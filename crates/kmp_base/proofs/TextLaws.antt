@@ -15,7 +15,8 @@ pub decimal_fits : (n : ℕ) → n < 2 ^ 64 → length (decimal n) ≤ 20
 decimal_fits n fits = length-decimal-le 20 n (omega arith) (omega arith) fits
 
 -- where a text is read as the number that it spells, that number is shown as the text
-pub shown_as_read : {E : Type 0} {result : Result ℕ E} {text shown : List ℕ} {n m : ℕ} → result ≡ Ok n → result ≡ Ok m → shown ≡ decimal m → text ≡ decimal n → shown ≡ text
+pub shown_as_read : {E : Type 0} {result : Result ℕ E} {text shown : List ℕ} {n m : ℕ} → result ≡ Ok n → result ≡ Ok m → shown ≡ decimal m
+    → text ≡ decimal n → shown ≡ text
 shown_as_read read is shows spelled = cc
 
 -- what is read is no fault
@@ -35,13 +36,17 @@ decoded : (text : List ℕ) (n : ℕ) → text ≡ hex8 n → decode_sized text 
 decoded text n is = rw is (decode_sized-encode_lower (to_be_bytes w32 n) 4 refl (word_bytes n))
 
 -- what is no text of digits spells no word
-pub no_hex8 : (text out : List ℕ) (result : Result (Unit {0}) FromHexError) → MatchResult (decode_sized text 4) (λ bytes. (result ≡ Ok tt) × (out ≡ bytes)) (λ e. result ≡ Err e) → is_err result ≡ true → (n : ℕ) → n < 2 ^ 32 → text ≡ hex8 n → ⊥
+pub no_hex8 : (text out : List ℕ) (result : Result (Unit {0}) FromHexError)
+    → MatchResult (decode_sized text 4) (λ bytes. (result ≡ Ok tt) × (out ≡ bytes)) (λ e. result ≡ Err e) → is_err result ≡ true → (n : ℕ)
+    → n < 2 ^ 32 → text ≡ hex8 n → ⊥
 no_hex8 text out result value failed n small is =
     let both = rw (decoded text n is) at value in
     let fine = ap is_err both.0 in cc
 
 -- what isn't the spelling of the word of its bytes spells no word
-pub no_other_hex8 : (text bytes : List ℕ) (result : Result (Unit {0}) FromHexError) (word : ℕ) → MatchResult (decode_sized text 4) (λ out. (result ≡ Ok tt) × (bytes ≡ out)) (λ e. result ≡ Err e) → word ≡ from_be_bytes w32 bytes → text ≢ hex8 word → (n : ℕ) → n < 2 ^ 32 → text ≡ hex8 n → ⊥
+pub no_other_hex8 : (text bytes : List ℕ) (result : Result (Unit {0}) FromHexError) (word : ℕ)
+    → MatchResult (decode_sized text 4) (λ out. (result ≡ Ok tt) × (bytes ≡ out)) (λ e. result ≡ Err e) → word ≡ from_be_bytes w32 bytes
+    → text ≢ hex8 word → (n : ℕ) → n < 2 ^ 32 → text ≡ hex8 n → ⊥
 no_other_hex8 text bytes result word value read other n small is =
     let both = rw (decoded text n is) at value in
     let same = read ∙ ap (from_be_bytes w32) both.1 ∙ from_be_bytes-to_be_bytes_4 n small in

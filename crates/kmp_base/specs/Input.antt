@@ -21,7 +21,8 @@ HasReadCause before now (Err faults.Failed) = Rose before now
 HasReadCause before now result = now ≡ before
 
 -- A call that was to read an input to its end: the bytes that it took, and when it may fail.
-pub record ReadsInput {S : Type 0} (left : S → Option (List ℕ)) (faults : S → ℕ) (old new : S) (limit : ℕ) (result : Result (Vec ℕ Global) InputFault) : Type 0 where
+pub record ReadsInput {S : Type 0} (left : S → Option (List ℕ)) (faults : S → ℕ) (old new : S) (limit : ℕ)
+    (result : Result (Vec ℕ Global) InputFault) : Type 0 where
   pub bytes : Reads (left old) (left new) limit result
   pub cause : HasReadCause (faults old) (faults new) result
   pub later : faults old ≤ faults new

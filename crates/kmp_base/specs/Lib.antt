@@ -4,5 +4,7 @@ pub mod Text
 pub mod Rows
 pub mod Limits
 pub mod Memory
+pub mod Collected
 pub mod Names
 pub mod Bind
+pub mod Gives

@@ -39,6 +39,10 @@ Rose before now = next_count before ≤ now
 abbrev pub IsSpent : Option (List ℕ) → Type 0
 IsSpent left = IfSome left (λ bytes. bytes ≡ [])
 
+-- nothing is held, where that is told
+abbrev pub HoldsNothing : Option (List ℕ) → Type 0
+HoldsNothing held = IfSome held (λ bytes. bytes ≡ [])
+
 -- the bytes are what was taken from the front of what was left
 abbrev pub Took : Option (List ℕ) → Option (List ℕ) → List ℕ → Type 0
 Took old new bytes = old ≡ prepend_known bytes new
@@ -53,7 +57,8 @@ AppendedPart old new text = (part rest : List ℕ) × (text ≡ part ++ rest) ×
 
 -- A call that was to append the text: all of it at Ok, without a fault; a front of it at Err, where
 -- the count rose.
-pub record Writes {K T E : Type 0} (held : K → Option (List ℕ)) (faults : K → ℕ) (old new : K) (result : Result T E) (text : List ℕ) : Type 0 where
+pub record Writes {K T E : Type 0} (held : K → Option (List ℕ)) (faults : K → ℕ) (old new : K) (result : Result T E) (text : List ℕ) : Type
+    0 where
   pub whole : OnOk result (Appended (held old) (held new) text)
   pub no_fault : OnOk result (faults new ≡ faults old)
   pub part : OnErr result (AppendedPart (held old) (held new) text)

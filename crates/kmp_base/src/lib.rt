@@ -5,9 +5,13 @@
 //! Laws that crates above cite:
 //!
 //! - `proofs/StreamLaws`: texts that are appended one after another, and bytes that are read one after another.
+//! - `proofs/CollectedLaws`: what is written over a sink that collects is written beneath.
+//! - `proofs/ReadingLaws`: a step of reading and what follows it, and values that are read one by one.
 //! - `proofs/TextLaws`: how long a decimal number is, and which texts spell no word.
 #![tactic(auto)]
 
+mod collected;
+mod fault;
 mod memory;
 mod names;
 mod numbers;
@@ -17,6 +21,8 @@ mod standard;
 mod streams;
 mod transfer;
 
+pub use collected::Collected;
+pub use fault::Fault;
 pub use memory::{MemorySink, MemorySource};
 pub use names::named;
 pub use numbers::{decimal_of, hex8_of};

@@ -1,4 +1,4 @@
-// A source and a sink in memory, which fail at the calls that a list names.
+//! A source and a sink in memory, which fail at the calls that a list names.
 ghost use Rattle.std.specs.Prelude.{◌≡◌, ◌+◌, ◌<◌, ◌≤◌, ◌↔◌, ◌⊎◌, min, List, [], ◌++◌, Some, length, take, drop, Contains, IsTrue, IfOk, vec_len};
 ghost use Rattle.std.specs.Vec.{vec_capacity};
 ghost use Rattle.kmp_base.specs.Streams.{IfGot, OnReadFailed, IfTook, OnWriteFailed, next_count};

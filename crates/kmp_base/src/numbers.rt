@@ -1,4 +1,4 @@
-// Numbers from their one spelling.
+//! Numbers from their one spelling.
 ghost use Rattle.std.specs.Prelude.{◌≡◌, ◌↔◌, IsTrue, ℕ, ◌^◌, ◌<◌, decimal, MatchOption};
 ghost use Rattle.kmp_base.specs.Text.{hex8};
 

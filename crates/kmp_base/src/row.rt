@@ -1,8 +1,9 @@
-// One row of text, of a fixed room.
-ghost use Rattle.std.specs.Prelude.{◌≡◌, ℕ, ◌+◌, ◌≤◌, List, [], ◌++◌, length, take, decimal};
+//! One row of text, of a fixed room.
+ghost use Rattle.std.specs.Prelude.{◌≡◌, ℕ, ◌+◌, ◌≤◌, List, [], ◌++◌, length, decimal};
 ghost use Rattle.kmp_base.specs.Text.{hex8, hex4};
 ghost use Rattle.kmp_base.specs.declared.row.TheConstants.{ROOM};
 
+use arrayvec::ArrayVec;
 use itoa::Buffer;
 use std::marker::Model;
 
@@ -12,16 +13,13 @@ pub const ROOM: usize = 128;
 /// A row of text of at most [`ROOM`] bytes, which takes no memory. Contracts see it as its bytes.
 #[derive(Drop)]
 pub struct Row {
-    buf: [u8; ROOM],
-    len: usize,
+    bytes: ArrayVec<u8, ROOM>,
 }
 
 impl Model for Row {
     ghost Value = { List ℕ };
 
-    ghost view = { λ row. take row.len row.buf };
-
-    ghost invariant = { λ row. row.len ≤ ROOM };
+    ghost view = { λ row. row.bytes.items };
 }
 
 impl Row {
@@ -30,8 +28,7 @@ impl Row {
         ensures empty { result ≡ [] }
     {
         Row {
-            buf: [0; ROOM],
-            len: 0,
+            bytes: ArrayVec::new(),
         }
     }
 
@@ -39,7 +36,7 @@ impl Row {
     pub fn bytes(&self) -> &[u8]
         ensures bytes { result.now ≡ self.now }
     {
-        &self.buf[..self.len]
+        self.bytes.as_slice()
     }
 
     /// Appends bytes.
@@ -48,9 +45,7 @@ impl Row {
         ensures bytes { self.new ≡ self.old ++ bytes.now }
         ensures len { length self.new ≡ length self.old + length bytes.now }
     {
-        let end = self.len + bytes.len();
-        self.buf[self.len..end].copy_from_slice(bytes);
-        self.len = end;
+        self.bytes.try_extend_from_slice(bytes).unwrap();
     }
 
     /// Appends a text.

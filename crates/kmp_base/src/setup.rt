@@ -1,4 +1,4 @@
-// What is asked of a run.
+//! What is asked of a run.
 
 /// The most cores of a run.
 pub const MOST_CORES: u32 = 8;

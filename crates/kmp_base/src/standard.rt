@@ -1,4 +1,4 @@
-// Adapters over the real streams. They tell no content, and count their errors.
+//! Adapters over the real streams. They tell no content, and count their errors.
 ghost use Rattle.std.specs.Prelude.{◌≡◌, ℕ, ◌<◌, ◌≤◌, None, length, take};
 ghost use Rattle.std.specs.Io.KnownBytes.{Appends, Consumes, IsAtEnd, Keeps};
 ghost use Rattle.kmp_base.specs.Streams.{IfGot, OnReadFailed, IfTook, OnWriteFailed, next_count};

@@ -1,4 +1,4 @@
-// A source and a sink of bytes, by what is left and what is held, and by their faults.
+//! A source and a sink of bytes, by what is left and what is held, and by their faults.
 ghost use Rattle.std.specs.Prelude.{◌≡◌, ℕ, ◌<◌, ◌≤◌, ◌↔◌, List, [], Option, length, take, IfSome};
 ghost use Rattle.kmp_base.specs.Streams.{IfGot, OnReadFailed, IfTook, OnWriteFailed, Rose, Took, Appended};
 

@@ -1,6 +1,6 @@
-// The whole of an input, and the whole of a piece of output.
-ghost use Rattle.std.specs.Prelude.{◌≡◌, [], IsOk};
-ghost use Rattle.kmp_base.specs.Streams.{Writes};
+//! The whole of an input, and the whole of a piece of output.
+ghost use Rattle.std.specs.Prelude.{◌≡◌, ◌<◌, ◌≤◌, [], length, take, IsOk};
+ghost use Rattle.kmp_base.specs.Streams.{Appended, Rose, Writes};
 ghost use Rattle.kmp_base.specs.Input.{ReadsInput};
 
 use crate::{Read, Sink, Source, Wrote};
@@ -26,11 +26,13 @@ pub enum InputFault {
 #[error("the sink failed")]
 pub struct WriteFault;
 
-// The most bytes that are asked for at once.
-const CHUNK: usize = 4096;
+// The fewest and the most bytes that are asked for at once.
+const LEAST: usize = 4096;
+
+const MOST: usize = 65_536;
 
 /// Reads to the end of the input. Where it has more than `limit` bytes, one byte more than `limit`
-/// is taken, and the rest stays unread.
+/// is taken, and the rest stays unread. It asks for as many bytes again as it has, within bounds.
 pub fn read_input<S: Source>(
     alloc: Global,
     source: &mut S,
@@ -39,11 +41,13 @@ pub fn read_input<S: Source>(
     ensures reads { ReadsInput S.left S.faults source.old source.new limit result }
 {
     let mut bytes = Vec::new(alloc);
-    let mut buf = [0u8; CHUNK];
+    let mut part = Vec::new(alloc);
     'input: while bytes.len() <= limit {
-        let most = (limit - bytes.len()).min(CHUNK - 1) + 1;
-        let part = &mut buf[..most];
-        match source.read(part) {
+        let most = (limit - bytes.len()).min(bytes.len().clamp(LEAST, MOST) - 1) + 1;
+        if part.resize(most, 0).is_err() {
+            return Err(InputFault::Memory);
+        }
+        match source.read(&mut part) {
             Read::Got(0) => return Ok(bytes),
             Read::Got(count) => {
                 if bytes.extend_from_slice(&part[..count]).is_err() {
@@ -56,18 +60,34 @@ pub fn read_input<S: Source>(
     Err(InputFault::TooLong)
 }
 
+// Appends the bytes, in order, by as many writes as the sink needs, until one fails, and says how
+// many were appended. Without a byte it makes no write.
+pub(crate) fn put_front<K: Sink>(sink: &mut K, bytes: &[u8]) -> usize
+    ensures within { result ≤ length bytes.now }
+    ensures appended { Appended (K.held sink.old) (K.held sink.new) (take result bytes.now) }
+    ensures no_fault { result ≡ length bytes.now → K.faults sink.new ≡ K.faults sink.old }
+    ensures cause { result < length bytes.now → Rose (K.faults sink.old) (K.faults sink.new) }
+    ensures later { K.faults sink.old ≤ K.faults sink.new }
+    ensures no_call { bytes.now ≡ [] → sink.new ≡ sink.old }
+{
+    let mut count = 0;
+    while count < bytes.len() {
+        match sink.write(&bytes[count..]) {
+            Wrote::Took(more) => count += more,
+            Wrote::Failed => return count,
+        }
+    }
+    count
+}
+
 /// Appends all the bytes, in order, by as many writes as the sink needs; without a byte it makes
 /// none. After a fault a front of the bytes was appended.
 pub fn put<K: Sink>(sink: &mut K, bytes: &[u8]) -> Result<(), WriteFault>
     ensures writes { Writes K.held K.faults sink.old sink.new result bytes.now }
     ensures no_call { bytes.now ≡ [] → IsOk result × (sink.new ≡ sink.old) }
 {
-    let mut rest = bytes;
-    while !rest.is_empty() {
-        match sink.write(rest) {
-            Wrote::Took(count) => rest = &rest[count..],
-            Wrote::Failed => return Err(WriteFault),
-        }
+    if put_front(sink, bytes) < bytes.len() {
+        return Err(WriteFault);
     }
     Ok(())
 }

@@ -6,5 +6,6 @@ use Rattle.timetable.specs.declared.CoreEnd.{CoreEnd}
 use Rattle.timetable.specs.Outcome.{is_halt}
 use Rattle.report_rows.specs.Ends.{EndValue, end_value}
 
-pub halts_told : (ends : List CoreEnd) → list_all (λ (core : CoreEnd). is_halt core.end) ends ≡ list_all (λ (core : EndValue). is_halt core.end) (map end_value ends)
+pub halts_told : (ends : List CoreEnd)
+    → list_all (λ (core : CoreEnd). is_halt core.end) ends ≡ list_all (λ (core : EndValue). is_halt core.end) (map end_value ends)
 halts_told ends = sym (list_all-map (λ (core : EndValue). is_halt core.end) end_value ends)

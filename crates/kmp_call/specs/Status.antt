@@ -5,17 +5,20 @@ use Rattle.report_rows.specs.Ends.{EndValue}
 use Rattle.timetable.specs.Outcome.{is_halt}
 use Rattle.report_text.specs.Report.{ReportValue}
 use Rattle.kmp_call.specs.declared.status.Status.{Status}
-use Rattle.kmp_call.specs.declared.status.Status.TheVariants.{Done, OtherEnd, WordsRefused, InputRefused, ReadFault, WriteFault, NoMemory, Differs}
+use Rattle.kmp_call.specs.declared.status.Status.TheVariants.{Done, OtherEnd, WordsRefused, InputRefused, ReportRefused, ReadFault}
+use Rattle.kmp_call.specs.declared.status.Status.TheVariants.{WriteFault, NoMemory, Differs, WordsUnreadable}
 
 abbrev pub code_of : Status → ℕ
 code_of Done = 0
 code_of OtherEnd = 1
-code_of WordsRefused = 2
-code_of InputRefused = 3
+code_of (WordsRefused fault) = 2
+code_of (InputRefused refusal) = 3
+code_of (ReportRefused line) = 3
 code_of ReadFault = 4
 code_of WriteFault = 5
 code_of NoMemory = 6
-code_of Differs = 7
+code_of (Differs line) = 7
+code_of WordsUnreadable = 8
 
 -- Whether every core ended at a `halt`.
 abbrev pub status_of : ReportValue → Status

@@ -9,7 +9,6 @@ mod refused;
 mod run;
 mod status;
 
-pub use answer::{refuse_input, refuse_words, write_row};
-pub use refused::{bad_row, too_long};
+pub use answer::{refuse_input, refuse_report, refuse_words, write_row};
 pub use run::write_run;
 pub use status::Status;

@@ -73,8 +73,7 @@ fn of_image(cause: ImageCause, byte: u32) -> Row
     }
 }
 
-/// The row of an input of more bytes than a limit.
-pub fn too_long(limit: usize) -> Row
+fn too_long(limit: usize) -> Row
     ensures row { result ≡ too_long_row limit }
 {
     refused(9, "TooLong", "byte", limit as u64)

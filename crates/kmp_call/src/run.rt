@@ -12,7 +12,7 @@ ghost use Rattle.kmp_call.specs.Outcome.{Answers, Finishes, RunsOut, IsReportDue
 use crate::status::{Status, status_of};
 use image_file::Image;
 use kmp_base::{Setup, Sink, WriteFault};
-use report_text::{NoMemory, Report, build_report, print_report, right_report_is_read};
+use report_text::{NoMemory, Report, build_report, print_report};
 use std::alloc::Global;
 use timetable::Outcome;
 
@@ -32,7 +32,6 @@ fn report_of(
     ensures form { IfOk result IsReport }
 {
     let report = build_report(alloc, setup, image, outcome)?;
-    right_report_is_read(&report);
     Ok(report)
 }
 

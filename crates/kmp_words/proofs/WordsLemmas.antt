@@ -1,5 +1,6 @@
 -- What options come to.
-use Rattle.std.proofs.Common.{◌≡◌, ℕ, ◌+◌, ◌^◌, ◌<◌, ◌≤◌, Bool, true, false, List, Bor, length, get_or, drop, [], ◌∷◌, Option, Some, None, option_and_then, option_map, Result, Ok, Err, decimal, refl, arith}
+use Rattle.std.proofs.Common.{◌≡◌, ℕ, ◌+◌, ◌^◌, ◌<◌, ◌≤◌, Bool, true, false, List, Bor, length, get_or, drop, [], ◌∷◌, Option, Some, None}
+use Rattle.std.proofs.Common.{option_and_then, option_map, Result, Ok, Err, decimal, refl, arith}
 use Rattle.std.specs.Prelude.{IfSome, is_some, nat_lt, nat_le, ◌&&◌, if◌then◌else◌}
 use Rattle.std.specs.Str.{bytes_eq}
 use Rattle.std.specs.Str.Parse.{digits_value}
@@ -20,7 +21,9 @@ use Rattle.kmp_base.specs.Names.{named}
 use Rattle.kmp_words.specs.declared.fault.WordFault.{WordFault}
 use Rattle.kmp_words.specs.declared.fault.WordCause.TheVariants.{UnknownOption, OptionTwice, BadValue}
 use Rattle.kmp_base.specs.Bind.{◌>>=◌}
-use Rattle.kmp_words.specs.Words.{name_in, value_in, number_in, lines_of, no_options, options_of, stands_in, with_option, at_word, fault_where, option_in, options_from, number_within, machine_names, turns_names, or_default, setup_of, memory_lines, order_of, texts_of, IsProperInput, IsRunnableSetup, IsRunnable}
+use Rattle.kmp_words.specs.Words.{name_in, value_in, number_in, lines_of, no_options, options_of, stands_in, with_option, at_word}
+use Rattle.kmp_words.specs.Words.{fault_where, option_in, options_from, number_within, machine_names, turns_names, or_default, setup_of}
+use Rattle.kmp_words.specs.Words.{memory_lines, order_of, texts_of, IsProperInput, IsRunnableSetup, IsRunnable}
 
 same : (text : List ℕ) → bytes_eq text text ≡ true
 same text = grind (arith, bytes_eq-Decides)
@@ -38,13 +41,15 @@ pub number_in_decimal : (text : List ℕ) (n : ℕ) → n < 2 ^ 64 → text ≡ 
 number_in_decimal text n fits is = rw (is, (decimal_is_IsNumeral n fits).1, same (decimal n)) refl
 
 -- a text that spells no number of 64 bits has no value, where greater ones have none
-no_number : {A : Type 0} (f : ℕ → Option A) (text : List ℕ) → ((number : ℕ) → 2 ^ 64 ≤ number → f number ≡ None) → ((n : ℕ) → n < 2 ^ 64 → text ≡ decimal n → ⊥) → option_and_then f (number_in text) ≡ None
+no_number : {A : Type 0} (f : ℕ → Option A) (text : List ℕ) → ((number : ℕ) → 2 ^ 64 ≤ number → f number ≡ None)
+    → ((n : ℕ) → n < 2 ^ 64 → text ≡ decimal n → ⊥) → option_and_then f (number_in text) ≡ None
 no_number f text above none = judged (bytes_eq text (decimal number)) refl (nat_lt number (2 ^ 64)) refl
   where
     number : ℕ
     number = digits_value 10 text
 
-    judged : (t : Bool) → bytes_eq text (decimal number) ≡ t → (u : Bool) → nat_lt number (2 ^ 64) ≡ u → option_and_then f (number_in text) ≡ None
+    judged : (t : Bool) → bytes_eq text (decimal number) ≡ t → (u : Bool) → nat_lt number (2 ^ 64) ≡ u
+        → option_and_then f (number_in text) ≡ None
     judged false e u g = rw e refl
     judged true e true g = absurd (none number (grind (arith, nat_tests)) (grind (arith, bytes_eq-Decides)))
     judged true e false g = let big : 2 ^ 64 ≤ number = grind (arith, nat_tests) in rw (e, above number big) refl
@@ -54,7 +59,8 @@ pub no_number_in : (text : List ℕ) → ((n : ℕ) → n < 2 ^ 64 → text ≡ 
 no_number_in text none = no_number lines_of text (λ number big. grind (arith, nat_tests)) none
 
 -- and no number within bounds of 32 bits
-pub no_number_within : (least most : ℕ) (text : List ℕ) → most < 2 ^ 32 → ((n : ℕ) → n < 2 ^ 64 → text ≡ decimal n → ⊥) → number_within least most text ≡ None
+pub no_number_within : (least most : ℕ) (text : List ℕ) → most < 2 ^ 32 → ((n : ℕ) → n < 2 ^ 64 → text ≡ decimal n → ⊥)
+    → number_within least most text ≡ None
 no_number_within least most text few none =
     no_number (λ number. if nat_le least number && nat_le number most then Some number else None) text (λ number big. above number big) none
   where
@@ -81,7 +87,8 @@ puts_of : {A : Type 0} (put : A → Options) (value : Option A) (more : Options)
 puts_of put None more is = absurd cc
 puts_of put (Some x) more is = record { it = x; is = refl; puts = cc }
 
-with_counts : (options more : Options) (name : OptionName) (word : ℕ) (value : Option (List ℕ)) → stands_in options name ≡ false → with_option options name word value ≡ Some more → count_of more ≡ count_of options + 1
+with_counts : (options more : Options) (name : OptionName) (word : ℕ) (value : Option (List ℕ)) → stands_in options name ≡ false
+    → with_option options name word value ≡ Some more → count_of more ≡ count_of options + 1
 with_counts options more names.Machine word (Some text) once is =
     let p = puts_of (λ kind. record options { machine = Some kind }) (named machine_names text) more is in
     let none = none_len options.machine once in rw p.puts (omega (arith, none))
@@ -113,25 +120,34 @@ record Adds (word : ℕ) (value : Option (List ℕ)) (options more : Options) : 
   once : stands_in options name ≡ false
   puts : with_option options name word value ≡ Some more
 
-valued : (word : ℕ) (value : Option (List ℕ)) (options more : Options) (name : OptionName) → stands_in options name ≡ false → (put : Option Options) → with_option options name word value ≡ put → ok_or put (at_word BadValue word) ≡ Ok more → Adds word value options more
+valued : (word : ℕ) (value : Option (List ℕ)) (options more : Options) (name : OptionName) → stands_in options name ≡ false
+    → (put : Option Options) → with_option options name word value ≡ put → ok_or put (at_word BadValue word) ≡ Ok more
+    → Adds word value options more
 valued word value options more name once None puts is = absurd cc
 valued word value options more name once (Some all) puts is = record { name = name; once = once; puts = cc }
 
-adds : (command : Command) (word : ℕ) (text : List ℕ) (options more : Options) → option_in command word text options ≡ Ok more → Adds word (value_in text) options more
+adds : (command : Command) (word : ℕ) (text : List ℕ) (options more : Options) → option_in command word text options ≡ Ok more
+    → Adds word (value_in text) options more
 unfolding option_in
 adds command word text options more is = by_option (named (options_of command) (name_in text)) is
   where
-    judged : (name : OptionName) (twice : Bool) → stands_in options name ≡ twice → (fault_where twice (at_word OptionTwice word) >>= λ _. ok_or (with_option options name word (value_in text)) (at_word BadValue word)) ≡ Ok more → Adds word (value_in text) options more
+    judged : (name : OptionName) (twice : Bool) → stands_in options name ≡ twice
+        → (fault_where twice (at_word OptionTwice word) >>= λ _. ok_or (with_option options name word (value_in text))
+        (at_word BadValue word)) ≡ Ok more → Adds word (value_in text) options more
     judged name true twice is = absurd cc
     judged name false once is = valued word (value_in text) options more name once (with_option options name word (value_in text)) refl is
 
-    by_option : (found : Option OptionName) → (ok_or found (at_word UnknownOption word) >>= λ name. fault_where (stands_in options name) (at_word OptionTwice word) >>= λ _. ok_or (with_option options name word (value_in text)) (at_word BadValue word)) ≡ Ok more → Adds word (value_in text) options more
+    by_option : (found : Option OptionName)
+        → (ok_or found (at_word UnknownOption word) >>= λ name. fault_where (stands_in options name) (at_word OptionTwice word) >>= λ _.
+        ok_or (with_option options name word (value_in text)) (at_word BadValue word)) ≡ Ok more → Adds word (value_in text) options more
     by_option None is = absurd cc
     by_option (Some name) is = judged name (stands_in options name) refl is
 
 -- each word adds an option
-pub counts : (command : Command) (word : ℕ) (text : List ℕ) (options more : Options) → option_in command word text options ≡ Ok more → count_of more ≡ count_of options + 1
-counts command word text options more is = let a = adds command word text options more is in with_counts options more a.name word (value_in text) a.once a.puts
+pub counts : (command : Command) (word : ℕ) (text : List ℕ) (options more : Options) → option_in command word text options ≡ Ok more
+    → count_of more ≡ count_of options + 1
+counts command word text options more is = let a =
+    adds command word text options more is in with_counts options more a.name word (value_in text) a.once a.puts
 
 -- the values of options are within their bounds
 pub record AreProper (options : Options) : Type 0 where
@@ -148,7 +164,9 @@ memory_proper : (number : Option ℕ) (lines : ℕ) → option_and_then lines_of
 memory_proper None lines is = absurd cc
 memory_proper (Some bytes) lines is = lines_proper bytes lines is
 
-within_bounds : (least most : ℕ) (number : Option ℕ) (n : ℕ) → option_and_then (λ number. if nat_le least number && nat_le number most then Some number else None) number ≡ Some n → (least ≤ n) × (n ≤ most)
+within_bounds : (least most : ℕ) (number : Option ℕ) (n : ℕ)
+    → option_and_then (λ number. if nat_le least number && nat_le number most then Some number else None) number ≡ Some n → (least ≤ n)
+    × (n ≤ most)
 within_bounds least most None n is = absurd cc
 within_bounds least most (Some number) n is = grind (arith, nat_tests)
 
@@ -157,25 +175,62 @@ one_value : {T : Type 0} (found : Bool) (value other : T) → (if found then Som
 one_value true value other is = cc
 one_value false value other is = absurd cc
 
-with_proper : (options more : Options) (name : OptionName) (word : ℕ) (value : Option (List ℕ)) → with_option options name word value ≡ Some more → AreProper options → AreProper more
+with_proper : (options more : Options) (name : OptionName) (word : ℕ) (value : Option (List ℕ))
+    → with_option options name word value ≡ Some more → AreProper options → AreProper more
 with_proper options more names.Machine word (Some text) is before =
     let p = puts_of (λ kind. record options { machine = Some kind }) (named machine_names text) more is in
-    rw p.puts (record { machine_is = one_value _ machines.Plain p.it p.is; cores_are = before.cores_are; budget_is = before.budget_is; turns_are = before.turns_are; memory_is = before.memory_is })
+    rw p.puts (record {
+      machine_is = one_value _ machines.Plain p.it p.is;
+      cores_are = before.cores_are;
+      budget_is = before.budget_is;
+      turns_are = before.turns_are;
+      memory_is = before.memory_is;
+    })
 with_proper options more names.Cores word (Some text) is before =
     let p = puts_of (λ cores. record options { cores = Some cores }) (number_within 1 8 text) more is in
-    rw p.puts (record { machine_is = before.machine_is; cores_are = within_bounds 1 8 (number_in text) p.it p.is; budget_is = before.budget_is; turns_are = before.turns_are; memory_is = before.memory_is })
+    rw p.puts (record {
+      machine_is = before.machine_is;
+      cores_are = within_bounds 1 8 (number_in text) p.it p.is;
+      budget_is = before.budget_is;
+      turns_are = before.turns_are;
+      memory_is = before.memory_is;
+    })
 with_proper options more names.Budget word (Some text) is before =
     let p = puts_of (λ budget. record options { budget = Some budget }) (number_within 1 100000 text) more is in
-    rw p.puts (record { machine_is = before.machine_is; cores_are = before.cores_are; budget_is = within_bounds 1 100000 (number_in text) p.it p.is; turns_are = before.turns_are; memory_is = before.memory_is })
+    rw p.puts (record {
+      machine_is = before.machine_is;
+      cores_are = before.cores_are;
+      budget_is = within_bounds 1 100000 (number_in text) p.it p.is;
+      turns_are = before.turns_are;
+      memory_is = before.memory_is;
+    })
 with_proper options more names.Turns word (Some text) is before =
     let p = puts_of (λ order. record options { turns = Some order }) (named turns_names text) more is in
-    rw p.puts (record { machine_is = before.machine_is; cores_are = before.cores_are; budget_is = before.budget_is; turns_are = one_value _ turns.Round p.it p.is; memory_is = before.memory_is })
+    rw p.puts (record {
+      machine_is = before.machine_is;
+      cores_are = before.cores_are;
+      budget_is = before.budget_is;
+      turns_are = one_value _ turns.Round p.it p.is;
+      memory_is = before.memory_is;
+    })
 with_proper options more names.Memory word (Some text) is before =
     let p = puts_of (λ lines. record options { memory = Some (lines, word) }) (option_and_then lines_of (number_in text)) more is in
-    rw p.puts (record { machine_is = before.machine_is; cores_are = before.cores_are; budget_is = before.budget_is; turns_are = before.turns_are; memory_is = memory_proper (number_in text) p.it p.is })
+    rw p.puts (record {
+      machine_is = before.machine_is;
+      cores_are = before.cores_are;
+      budget_is = before.budget_is;
+      turns_are = before.turns_are;
+      memory_is = memory_proper (number_in text) p.it p.is;
+    })
 with_proper options more names.Image word None is before =
     let this : more ≡ record options { image = Some word } = cc in
-    rw this (record { machine_is = before.machine_is; cores_are = before.cores_are; budget_is = before.budget_is; turns_are = before.turns_are; memory_is = before.memory_is })
+    rw this (record {
+      machine_is = before.machine_is;
+      cores_are = before.cores_are;
+      budget_is = before.budget_is;
+      turns_are = before.turns_are;
+      memory_is = before.memory_is;
+    })
 with_proper options more names.Machine word None is before = absurd cc
 with_proper options more names.Cores word None is before = absurd cc
 with_proper options more names.Budget word None is before = absurd cc
@@ -183,26 +238,36 @@ with_proper options more names.Turns word None is before = absurd cc
 with_proper options more names.Memory word None is before = absurd cc
 with_proper options more names.Image word (Some text) is before = absurd cc
 
-step_proper : (command : Command) (word : ℕ) (text : List ℕ) (options more : Options) (texts : List (List ℕ)) → ((next : Options) → options_from command (word + 1) next texts ≡ Ok more → AreProper next → AreProper more) → (here : Result Options WordFault) → option_in command word text options ≡ here → (here >>= λ next. options_from command (word + 1) next texts) ≡ Ok more → AreProper options → AreProper more
+step_proper : (command : Command) (word : ℕ) (text : List ℕ) (options more : Options) (texts : List (List ℕ))
+    → ((next : Options) → options_from command (word + 1) next texts ≡ Ok more → AreProper next → AreProper more)
+    → (here : Result Options WordFault) → option_in command word text options ≡ here
+    → (here >>= λ next. options_from command (word + 1) next texts) ≡ Ok more → AreProper options → AreProper more
 step_proper command word text options more texts others (Err fault) put is before = absurd cc
 step_proper command word text options more texts others (Ok next) put is before =
     let a = adds command word text options next put in others next is (with_proper options next a.name word (value_in text) a.puts before)
 
-from_proper : (command : Command) (word : ℕ) (options more : Options) (texts : List (List ℕ)) → options_from command word options texts ≡ Ok more → AreProper options → AreProper more
+from_proper : (command : Command) (word : ℕ) (options more : Options) (texts : List (List ℕ))
+    → options_from command word options texts ≡ Ok more → AreProper options → AreProper more
 unfolding options_from
 from_proper command word options more [] is before = let same : options ≡ more = cc in rw (← same) before
 from_proper command word options more (text ∷ texts) is before =
-    step_proper command word text options more texts (λ next. from_proper command (word + 1) next more texts) (option_in command word text options) refl is before
+    step_proper command word text options more texts (λ next. from_proper command (word + 1) next more texts)
+    (option_in command word text options) refl is before
 
 -- the options of a command line have a proper memory
-pub options_proper : (command : Command) (texts : List (List ℕ)) (options : Options) → options_from command 2 no_options texts ≡ Ok options → AreProper options
-options_proper command texts options is = from_proper command 2 no_options options texts is (record { machine_is = tt; cores_are = tt; budget_is = tt; turns_are = tt; memory_is = tt })
+pub options_proper : (command : Command) (texts : List (List ℕ)) (options : Options) → options_from command 2 no_options texts ≡ Ok options
+    → AreProper options
+options_proper command texts options is =
+    from_proper command 2 no_options options texts is
+    (record { machine_is = tt; cores_are = tt; budget_is = tt; turns_are = tt; memory_is = tt })
 
-lines_within : (memory : Option (ℕ × ℕ)) → IfSome memory (λ m. IsProperInput (inputs.Source m.0)) → IsProperInput (inputs.Source (option_map_or (λ m. m.0) memory 8192))
+lines_within : (memory : Option (ℕ × ℕ)) → IfSome memory (λ m. IsProperInput (inputs.Source m.0))
+    → IsProperInput (inputs.Source (option_map_or (λ m. m.0) memory 8192))
 lines_within None proper = (omega arith, omega arith)
 lines_within (Some m) proper = proper
 
-input_proper : (image : Option ℕ) (lines : ℕ) → IsProperInput (inputs.Source lines) → IsProperInput (if is_some image then inputs.Image else inputs.Source lines)
+input_proper : (image : Option ℕ) (lines : ℕ) → IsProperInput (inputs.Source lines)
+    → IsProperInput (if is_some image then inputs.Image else inputs.Source lines)
 input_proper None lines proper = proper
 input_proper (Some word) lines proper = tt
 
@@ -232,12 +297,14 @@ setup_runnable options proper =
 
 -- what a command with such options asks for can be carried out
 pub order_runnable : (command : Command) (options : Options) → AreProper options → IsRunnable (order_of command options)
-order_runnable commands.Run options proper = (setup_runnable options proper, input_proper options.image (memory_lines options) (lines_within options.memory proper.memory_is))
+order_runnable commands.Run options proper =
+    (setup_runnable options proper, input_proper options.image (memory_lines options) (lines_within options.memory proper.memory_is))
 order_runnable commands.Asm options proper = lines_within options.memory proper.memory_is
 order_runnable commands.Replay options proper = tt
 
 -- the options behind a word
-pub options_go_on : (command : Command) (word : ℕ) (options next : Options) (texts : List (Bor (List ℕ))) (i : ℕ) (d : Bor (List ℕ)) → i < length texts → option_in command word (get_or texts i d).now options ≡ Ok next
+pub options_go_on : (command : Command) (word : ℕ) (options next : Options) (texts : List (Bor (List ℕ))) (i : ℕ) (d : Bor (List ℕ))
+    → i < length texts → option_in command word (get_or texts i d).now options ≡ Ok next
     → options_from command word options (texts_of (drop i texts)) ≡ options_from command (word + 1) next (texts_of (drop (i + 1) texts))
 unfolding options_from
 options_go_on command word options next texts i d within put = rw (drop_more texts i d within, put) refl

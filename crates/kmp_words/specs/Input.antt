@@ -1,15 +1,19 @@
--- What an input means: an image, or a refusal.
-use Rattle.std.specs.Prelude.{◌≡◌, ◌⊎◌, ℕ, ◌+◌, ◌≤◌, nat_lt, if◌then◌else◌, List, length, Option, Result, Ok, Err}
+-- What an input means: a program, or a refusal.
+use Rattle.std.specs.Prelude.{◌≡◌, ◌⊎◌, ℕ, ◌+◌, ◌≤◌, nat_lt, if◌then◌else◌, List, [], length, Option, Result, Ok, Err}
 use Rattle.kmp_base.specs.Streams.{Took, IsSpent, Rose}
 use Rattle.image_file.specs.declared.fault.ImageFault.{ImageFault}
 use Rattle.image_file.specs.declared.fault.ImageFault.TheVariants as images
 use Rattle.image_file.specs.Reading.{image_meaning}
-use Rattle.image_file.specs.Value.{ImageValue}
+use Rattle.asm_token.specs.declared.fault.AsmCause.{AsmCause}
 use Rattle.asm_token.specs.declared.fault.AsmFault.{AsmFault}
 use Rattle.asm_token.specs.declared.fault.AsmFault.TheVariants as assembler
+use Rattle.asm_parse.specs.declared.statement.Statement.{Statement}
 use Rattle.asm_parse.specs.Lines.{statements_of}
+use Rattle.asm_layout.specs.DelaySlots.{split_lines}
 use Rattle.asm_link.specs.Assembly.{image_of}
 use Rattle.kmp_base.specs.Bind.{◌>>=◌}
+use Rattle.kmp_words.specs.Program.{ProgramValue, value_of}
+use Rattle.kmp_words.specs.declared.input.Program.{Program}
 use Rattle.kmp_words.specs.declared.input.Input.{Input}
 use Rattle.kmp_words.specs.declared.input.Input.TheVariants as inputs
 use Rattle.kmp_words.specs.declared.input.Refusal.{Refusal}
@@ -23,19 +27,25 @@ limit_of (inputs.Source memory_lines) = 1048576
 limit_of inputs.Image = 17825792
 
 -- a meaning, or a fault that becomes a refusal
-abbrev pub or_refused : {E : Type 0} → (E → Refusal) → Result ImageValue E → Result ImageValue Refusal
-or_refused refusal (Ok image) = Ok image
+abbrev pub or_refused : {A E : Type 0} → (E → Refusal) → Result A E → Result A Refusal
+or_refused refusal (Ok meaning) = Ok meaning
 or_refused refusal (Err fault) = Err (refusal fault)
 
--- The image that bytes mean, as many as there are: that of the statements of a source, or the one that they spell.
-abbrev pub image_from : Input → List ℕ → Result ImageValue Refusal
-image_from (inputs.Source memory_lines) text =
-    or_refused (λ fault. Asm fault.0 fault.1) (statements_of text >>= λ statements. image_of memory_lines statements)
-image_from inputs.Image bytes = or_refused (λ fault. Image fault.0 fault.1) (image_meaning bytes)
+-- The program of statements, in a memory of so many lines of 8 bytes.
+abbrev pub program_of : ℕ → List Statement → Result ProgramValue (AsmCause × ℕ)
+program_of memory_lines statements = image_of memory_lines statements >>= λ image.
+    Ok (record { image = image; split = split_lines statements })
 
--- The image that an input means, or its refusal.
-unfoldable pub meaning_of : Input → List ℕ → Result ImageValue Refusal
-meaning_of input bytes = if nat_lt (limit_of input) (length bytes) then Err (TooLong (limit_of input)) else image_from input bytes
+-- The program that bytes mean, as many as there are: that of the statements of a source, or the image that they spell.
+abbrev pub program_from : Input → List ℕ → Result ProgramValue Refusal
+program_from (inputs.Source memory_lines) text =
+    or_refused (λ fault. Asm fault.0 fault.1) (statements_of text >>= λ statements. program_of memory_lines statements)
+program_from inputs.Image bytes =
+    or_refused (λ fault. Image fault.0 fault.1) (image_meaning bytes >>= λ image. Ok (record { image = image; split = [] }))
+
+-- The program that an input means, or its refusal.
+unfoldable pub meaning_of : Input → List ℕ → Result ProgramValue Refusal
+meaning_of input bytes = if nat_lt (limit_of input) (length bytes) then Err (TooLong (limit_of input)) else program_from input bytes
 
 -- The input was read to its end, which is within the limit, or one byte more than the limit was taken.
 pub record ReadsAll (limit : ℕ) (old new : Option (List ℕ)) (bytes : List ℕ) : Type 0 where
@@ -43,15 +53,16 @@ pub record ReadsAll (limit : ℕ) (old new : Option (List ℕ)) (bytes : List �
   pub all : (IsSpent new × (length bytes ≤ limit)) ⊎ (length bytes ≡ limit + 1)
 
 -- An input with this meaning was read without a fault.
-pub record ReadsMeaning {S : Type 0} (left : S → Option (List ℕ)) (faults : S → ℕ) (old new : S) (input : Input) (meaning : Result ImageValue Refusal) : Type 0 where
+pub record ReadsMeaning {S : Type 0} (left : S → Option (List ℕ)) (faults : S → ℕ) (old new : S) (input : Input)
+    (meaning : Result ProgramValue Refusal) : Type 0 where
   pub bytes : List ℕ
   pub reads : ReadsAll (limit_of input) (left old) (left new) bytes
   pub no_fault : faults new ≡ faults old
   pub means : meaning_of input bytes ≡ meaning
 
 -- A function answers a meaning, unless memory ran out.
-abbrev pub Gives : Result ImageValue Refusal → Result ImageValue LoadFault → Type 0
-Gives meaning (Ok image) = meaning ≡ Ok image
+abbrev pub Gives : Result ProgramValue Refusal → Result Program LoadFault → Type 0
+Gives meaning (Ok program) = meaning ≡ Ok (value_of program)
 Gives meaning (Err (loads.Refused refusal)) = meaning ≡ Err refusal
 Gives meaning (Err loads.Read) = ⊥
 Gives meaning (Err loads.Memory) = Unit {0}
@@ -66,9 +77,9 @@ abbrev pub of_image : ImageFault → LoadFault
 of_image images.Memory = loads.Memory
 of_image (images.At cause byte) = loads.Refused (Image cause byte)
 
--- What loading answers: the image or the refusal that the input means, a failed read, or want of memory.
-abbrev pub Loads : {S : Type 0} → (S → Option (List ℕ)) → (S → ℕ) → S → S → Input → Result ImageValue LoadFault → Type 0
-Loads left faults old new input (Ok image) = ReadsMeaning left faults old new input (Ok image)
+-- What loading answers: the program or the refusal that the input means, a failed read, or want of memory.
+abbrev pub Loads : {S : Type 0} → (S → Option (List ℕ)) → (S → ℕ) → S → S → Input → Result Program LoadFault → Type 0
+Loads left faults old new input (Ok program) = ReadsMeaning left faults old new input (Ok (value_of program))
 Loads left faults old new input (Err (loads.Refused refusal)) = ReadsMeaning left faults old new input (Err refusal)
 Loads left faults old new input (Err loads.Read) = Rose (faults old) (faults new)
 Loads left faults old new input (Err loads.Memory) = faults new ≡ faults old

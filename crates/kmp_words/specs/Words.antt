@@ -1,5 +1,7 @@
 -- What the words of the command line ask for.
-use Rattle.std.specs.Prelude.{◌≡◌, ℕ, ◌≤◌, ◌+◌, ◌/◌, ◌%◌, ◌^◌, ◌==◌, ◌&&◌, Bool, not, nat_le, if◌then◌else◌, List, [], ◌∷◌, length, drop, take_while, map, codes, decimal, max, Option, Some, None, is_some, option_map, option_and_then, Result, Ok, Err}
+use Rattle.std.specs.Prelude.{◌≡◌, ℕ, ◌≤◌, ◌+◌, ◌/◌, ◌%◌, ◌^◌, ◌==◌, ◌&&◌, Bool, not, nat_le, if◌then◌else◌, List, [], ◌∷◌, length, drop}
+use Rattle.std.specs.Prelude.{take_while, map, codes, decimal, max, Option, Some, None, is_some, option_map, option_and_then, Result, Ok}
+use Rattle.std.specs.Prelude.{Err}
 use Rattle.std.specs.Borrow.{Bor}
 use Rattle.std.specs.Option.{ok_or, option_map_or}
 use Rattle.std.specs.Str.{bytes_eq}
@@ -153,7 +155,8 @@ memory_lines options = option_map_or (λ memory. memory.0) options.memory 8192
 
 -- what a command with its options asks for
 abbrev pub order_of : Command → Options → Order
-order_of commands.Run options = orders.Run (setup_of options) (if is_some options.image then inputs.Image else inputs.Source (memory_lines options))
+order_of commands.Run options =
+    orders.Run (setup_of options) (if is_some options.image then inputs.Image else inputs.Source (memory_lines options))
 order_of commands.Asm options = orders.Asm (memory_lines options)
 order_of commands.Replay options = orders.Replay
 

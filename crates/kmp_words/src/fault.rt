@@ -1,4 +1,5 @@
 //! What is wrong with the words of the command line.
+use crate::input::Refusal;
 use std::error::Error;
 use std::fmt::{self, Display, Formatter, Write};
 
@@ -14,15 +15,20 @@ pub enum WordCause {
 }
 
 impl WordCause {
-    /// What is wrong, in words.
+    /// What is wrong, and what to do.
     fn text(self) -> &'static str {
         match self {
-            WordCause::NoCommand => "there is no command",
-            WordCause::UnknownCommand => "there is no such command",
-            WordCause::UnknownOption => "the command has no such option",
-            WordCause::OptionTwice => "the option stands twice",
-            WordCause::BadValue => "the option has no such value",
-            WordCause::Excluded => "the option excludes another",
+            WordCause::NoCommand => "there is no command; write run, asm or replay",
+            WordCause::UnknownCommand => "there is no such command; write run, asm or replay",
+            WordCause::UnknownOption => {
+                "the command has no option of this name; --help alone lists them"
+            }
+            WordCause::OptionTwice => "the option stands before too; leave one out",
+            WordCause::BadValue => {
+                "the value is missing, isn't one of the option's, or is one too many; \
+                 --help alone lists them"
+            }
+            WordCause::Excluded => "--memory and --image don't stand together; leave one out",
         }
     }
 }
@@ -54,3 +60,19 @@ impl WordCause {
         WordFault { cause: self, word }
     }
 }
+
+impl Display for Refusal {
+    fn fmt<W: Write>(&self, f: &mut Formatter<W>) -> fmt::Result {
+        match self {
+            Refusal::TooLong(limit) => {
+                write!(f, "the input has more than {limit} bytes; shorten it")
+            }
+            // no line of the source is at fault
+            Refusal::Asm(cause, 0) => write!(f, "{cause}"),
+            Refusal::Asm(cause, line) => write!(f, "line {line}: {cause}"),
+            Refusal::Image(cause, byte) => write!(f, "byte {byte}: {cause}"),
+        }
+    }
+}
+
+impl Error for Refusal {}

@@ -1,13 +1,15 @@
-//! The image that is read from an input.
+//! The program that is read from an input.
 ghost use Rattle.std.specs.Prelude.{◌≡◌, ◌≤◌, length};
 ghost use Rattle.kmp_words.specs.Words.{IsProperInput};
-ghost use Rattle.kmp_words.specs.Input.{limit_of, image_from, of_source, of_image, meaning_of, Gives, Loads};
+ghost use Rattle.kmp_words.specs.Input.{limit_of, program_from, of_source, of_image, meaning_of, Gives, Loads};
+ghost use Rattle.kmp_words.specs.declared.input.LoadFault.TheVariants.{Memory};
 
+use asm_layout::split_lines;
 use asm_link::assemble;
 use asm_parse::{AsmCause, AsmFault, parse};
 use image_file::{Image, ImageCause, ImageFault, read_image};
 use kmp_base::{InputFault, Source, read_input};
-use std::alloc::Global;
+use std::alloc::{AllocError, Global};
 
 /// The most bytes of a source.
 pub const SOURCE_LIMIT: usize = 1_048_576;
@@ -24,8 +26,17 @@ pub enum Input {
     Image,
 }
 
+/// A program as it is loaded.
+#[derive(Drop)]
+pub struct Program {
+    pub image: Image,
+    /// The lines of its source with an `li` or `la` of which only the first word stands in a delay slot, as
+    /// [`split_lines`] tells them. An image has none.
+    pub split: Vec<u32>,
+}
+
 /// Why an input has no meaning.
-#[derive(Clone, Copy)]
+#[derive(Clone, Copy, Debug)]
 pub enum Refusal {
     /// It has more bytes than this limit.
     TooLong(usize),
@@ -35,7 +46,7 @@ pub enum Refusal {
     Image(ImageCause, u32),
 }
 
-/// Why there is no image.
+/// Why there is no program.
 #[derive(Clone, Copy)]
 pub enum LoadFault {
     Memory,
@@ -66,6 +77,14 @@ impl From<ImageFault> for LoadFault {
     }
 }
 
+impl From<AllocError> for LoadFault {
+    ghost from_gives = { λ _ result. result ≡ Memory };
+
+    fn from(_error: AllocError) -> LoadFault {
+        LoadFault::Memory
+    }
+}
+
 impl Input {
     /// The most bytes of such an input.
     fn limit(self) -> usize
@@ -78,38 +97,52 @@ impl Input {
     }
 }
 
-/// The image that a source means.
-fn assembled(alloc: Global, text: &[u8], memory_lines: u32) -> Result<Image, LoadFault>
+/// The program that a source means.
+fn assembled(alloc: Global, text: &[u8], memory_lines: u32) -> Result<Program, LoadFault>
     requires proper { IsProperInput (Input.Source memory_lines) }
     requires size { length text.now ≤ limit_of (Input.Source memory_lines) }
-    ensures meaning { Gives (image_from (Input.Source memory_lines) text.now) result }
+    ensures meaning { Gives (program_from (Input.Source memory_lines) text.now) result }
 {
     let statements = parse(alloc, text)?;
-    Ok(assemble(alloc, &statements, memory_lines)?)
+    let image = assemble(alloc, &statements, memory_lines)?;
+    let split = split_lines(alloc, &statements)?;
+    Ok(Program { image, split })
 }
 
-/// The image that bytes mean.
+/// The image that bytes are.
+fn spelled(alloc: Global, bytes: &[u8]) -> Result<Program, LoadFault>
+    requires size { length bytes.now ≤ limit_of Input.Image }
+    ensures meaning { Gives (program_from Input.Image bytes.now) result }
+{
+    let image = read_image(alloc, bytes)?;
+    Ok(Program {
+        image,
+        split: Vec::new(alloc),
+    })
+}
+
+/// The program that bytes mean.
 #[tactic(auto, unfolding(crate::specs::Input::meaning_of))]
-fn image_from(alloc: Global, input: Input, bytes: &[u8]) -> Result<Image, LoadFault>
+fn program_from(alloc: Global, input: Input, bytes: &[u8]) -> Result<Program, LoadFault>
     requires proper { IsProperInput input }
     requires size { length bytes.now ≤ limit_of input }
     ensures meaning { Gives (meaning_of input bytes.now) result }
 {
     match input {
         Input::Source(memory_lines) => assembled(alloc, bytes, memory_lines),
-        Input::Image => Ok(read_image(alloc, bytes)?),
+        Input::Image => spelled(alloc, bytes),
     }
 }
 
-/// Reads an input to its end, and gives the image that it means.
+/// Reads an input to its end, and gives the program that it means.
 ///
 /// A source has at most [`SOURCE_LIMIT`] bytes, an image [`IMAGE_LIMIT`]; of a longer input one byte more is read.
-pub fn load<S: Source>(alloc: Global, source: &mut S, input: Input) -> Result<Image, LoadFault>
+pub fn load<S: Source>(alloc: Global, source: &mut S, input: Input) -> Result<Program, LoadFault>
     requires proper { IsProperInput input }
     ensures loads { Loads S.left S.faults source.old source.new input result }
 {
     match read_input(alloc, source, input.limit()) {
-        Ok(bytes) => image_from(alloc, input, &bytes),
+        Ok(bytes) => program_from(alloc, input, &bytes),
         Err(InputFault::TooLong) => Err(LoadFault::Refused(Refusal::TooLong(input.limit()))),
         Err(InputFault::Failed) => Err(LoadFault::Read),
         Err(InputFault::Memory) => Err(LoadFault::Memory),

@@ -1,4 +1,4 @@
-//! What the words of the command line ask for, and the image that the input means.
+//! What the words of the command line ask for, and the program that the input means.
 #![tactic(auto)]
 
 mod fault;
@@ -8,6 +8,6 @@ mod order;
 mod words;
 
 pub use fault::{WordCause, WordFault};
-pub use input::{IMAGE_LIMIT, Input, LoadFault, Refusal, SOURCE_LIMIT, load};
+pub use input::{IMAGE_LIMIT, Input, LoadFault, Program, Refusal, SOURCE_LIMIT, load};
 pub use order::Order;
 pub use words::read_words;

@@ -37,7 +37,8 @@ is_allowed caches cores code_lines letters bus =
     && (may_read code_lines bus
     && ((bus.ch == holders letters.letter bus.master bus.line (2 * cores))
     && (is_supplier letters.letter bus.master bus.line (2 * cores) bus.di
-    && (is_same_word bus.victim (victim_of caches.ways (letters.letter bus.master bus.line) (letters.filled bus.master (bus.line % caches.sets)))
+    && (is_same_word bus.victim (victim_of caches.ways (letters.letter bus.master bus.line)
+    (letters.filled bus.master (bus.line % caches.sets)))
     && (letter_number bus.letter == letter_number ((caches.protocol bus.master).after_finish bus.im bus.ch)))))))
 
 abbrev pub follows_from : Caches → ℕ → ℕ → LettersValue → List Item → Bool

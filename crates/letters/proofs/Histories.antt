@@ -21,13 +21,16 @@ leaves-nothing sets ways cache false = refl
 
 follows : (shape : Shape) (items : List Item) → follows_in shape items ≡ true → FollowsIn shape items
 follows shape items is =
-    follows-true (all_with moesi shape.sets shape.ways) shape.cores shape.code_lines (leaves-nothing shape.sets shape.ways) no_letters items (λ cache line beyond. refl) is
+    follows-true (all_with moesi shape.sets shape.ways) shape.cores shape.code_lines (leaves-nothing shape.sets shape.ways) no_letters items
+    (λ cache line beyond. refl) is
 
 refused : (shape : Shape) (items : List Item) → follows_in shape items ≡ false → FollowsIn shape items → ⊥
 refused shape items isnt h =
-    both_ways (follows_in shape items) isnt (follows-from (all_with moesi shape.sets shape.ways) shape.cores shape.code_lines no_letters items h)
+    both_ways (follows_in shape items) isnt
+    (follows-from (all_with moesi shape.sets shape.ways) shape.cores shape.code_lines no_letters items h)
 
-all_follow : (histories : List History) → list_all (λ (h : History). follows_in h.shape h.items) histories ≡ true → AllByRecursion (λ (h : History). FollowsIn h.shape h.items) histories
+all_follow : (histories : List History) → list_all (λ (h : History). follows_in h.shape h.items) histories ≡ true
+    → AllByRecursion (λ (h : History). FollowsIn h.shape h.items) histories
 all_follow [] h = tt
 all_follow (history ∷ histories) h =
     let parts = and_parts (follows_in history.shape history.items) (list_all (λ (h : History). follows_in h.shape h.items) histories) h in
@@ -40,7 +43,8 @@ all_told : (forks : List Fork) → list_all is_told forks ≡ true → AllByRecu
 all_told [] h = tt
 all_told (fork ∷ forks) h =
     let parts = and_parts (is_told fork) (list_all is_told forks) h in
-    let both = and_parts (follows_in fork.shape (fork.before ++ fork.right)) (not (follows_in fork.shape (fork.before ++ fork.wrong))) parts.0 in (
+    let both = and_parts (follows_in fork.shape (fork.before ++ fork.right)) (not (follows_in fork.shape (fork.before ++ fork.wrong)))
+    parts.0 in (
       (
         follows fork.shape (fork.before ++ fork.right) both.0,
         refused fork.shape (fork.before ++ fork.wrong) (not-true (follows_in fork.shape (fork.before ++ fork.wrong)) both.1),

@@ -1,5 +1,6 @@
 -- What the items of a history make of the letters, and when they follow them. No words appear here: a transaction is one item.
-use Rattle.std.specs.Prelude.{◌≡◌, ◌≢◌, ℕ, zero, suc, ◌+◌, ◌*◌, ◌/◌, ◌%◌, ◌^◌, ◌<◌, Bool, true, false, ◌&&◌, not, nat_lt, ◌==◌, if◌then◌else◌, List, [], ◌∷◌, ◌++◌, Option, Some, None, is_some, length, filter, slice_get}
+use Rattle.std.specs.Prelude.{◌≡◌, ◌≢◌, ℕ, zero, suc, ◌+◌, ◌*◌, ◌/◌, ◌%◌, ◌^◌, ◌<◌, Bool, true, false, ◌&&◌, not, nat_lt, ◌==◌}
+use Rattle.std.specs.Prelude.{if◌then◌else◌, List, [], ◌∷◌, ◌++◌, Option, Some, None, is_some, length, filter, slice_get}
 use Rattle.access_log.specs.declared.Letter.{Letter}
 use Rattle.access_log.specs.declared.Letter.TheVariants.{I}
 use Rattle.access_log.specs.declared.Entry.{Entry}
@@ -62,7 +63,8 @@ abbrev pub after_transaction : Caches → LettersValue → Transaction → Lette
 after_transaction caches letters bus = record {
   letter = letter_after_transaction caches letters bus;
   filled = λ cache set.
-      if set == bus.line % caches.sets then filled_after_transaction letters bus cache (letters.filled cache set) else letters.filled cache set;
+      if set == bus.line % caches.sets then filled_after_transaction letters bus cache (letters.filled cache set)
+      else letters.filled cache set;
 }
 
 -- The letters after a list of items.
@@ -101,7 +103,8 @@ pub record IsAllowed (caches : Caches) (cores code_lines : ℕ) (letters : Lette
   -- All other caches that hold the line say so, and no other.
   pub held_by : bus.ch ≡ holders letters.letter bus.master bus.line (2 * cores)
   pub supplier : IsSupplier letters.letter bus.master bus.line bus.di
-  pub makes_room : bus.victim ≡ victim_of caches.ways (letters.letter bus.master bus.line) (letters.filled bus.master (bus.line % caches.sets))
+  pub makes_room : bus.victim ≡ victim_of caches.ways (letters.letter bus.master bus.line)
+      (letters.filled bus.master (bus.line % caches.sets))
   pub becomes : bus.letter ≡ (caches.protocol bus.master).after_finish bus.im bus.ch
 
 -- From these letters on, each entry is a hit in its core's data cache, and each transaction is allowed.

@@ -5,14 +5,15 @@ use Rattle.access_log.specs.Requests.{fetch_of}
 use Rattle.mem_port.specs.declared.port.Port.TheVariants.{Fetch, Access}
 use Rattle.mem_port.specs.Engine.{EngineView}
 use Rattle.mem_port.specs.Memory.{MemoryView, IsLawful, IsFresh}
-use Rattle.mem_port.specs.Side.{Mark, LeavesOthers}
-use Rattle.mem_port.proofs.SideLaws.{mark-evolves}
+use Rattle.mem_port.specs.Side.{PortPhase, LeavesOthers}
+use Rattle.mem_port.proofs.SideLaws.{port_phase-evolves}
 use Rattle.core_run.specs.declared.lane.Lane.{Lane}
 use Rattle.core_run.specs.Lanes.{IsClosed, PortHolds}
 use Rattle.machine_tests.specs.Eager.{IsEager}
 use Rattle.machine_tests.specs.AtWork.{IsAtWork}
 
-pub works-first : {image : ImageValue} {core cores left : ℕ} {e : EngineView} {lane : Lane} {m : MemoryView} → IsEager image core cores e → IsFresh image cores 100 None m → core < cores → lane.core ≡ core → IsClosed lane → left ≡ 100 → IsAtWork left e lane m
+pub works-first : {image : ImageValue} {core cores left : ℕ} {e : EngineView} {lane : Lane} {m : MemoryView} → IsEager image core cores e
+    → IsFresh image cores 100 None m → core < cores → lane.core ≡ core → IsClosed lane → left ≡ 100 → IsAtWork left e lane m
 works-first {image} {core} {cores} {left} {e} {lane} {m} eager fresh below is closed all =
     let within : lane.core < cores = omega (arith, is, below) in
     record {
@@ -32,10 +33,11 @@ works-first {image} {core} {cores} {left} {e} {lane} {m} eager fresh below is cl
       accesses = omega (arith, all, fresh.asks_left (Access lane.core) within);
     }
 
-pub works-beside : {left : ℕ} {e : EngineView} {lane : Lane} {m n : MemoryView} (core : ℕ) → IsAtWork left e lane m → IsLawful n → lane.core ≢ core → LeavesOthers core m n → IsAtWork left e lane n
+pub works-beside : {left : ℕ} {e : EngineView} {lane : Lane} {m n : MemoryView} (core : ℕ) → IsAtWork left e lane m → IsLawful n
+    → lane.core ≢ core → LeavesOthers core m n → IsAtWork left e lane n
 works-beside {left} {e} {lane} {m} {n} core works law ne others =
-    let HoldsFetch : Mark → Type 0 = λ port. PortHolds lane.open_fetch port (option_map fetch_of e.fetch) in
-    let HoldsAccess : Mark → Type 0 = λ port. PortHolds lane.open_access port e.access in
+    let HoldsFetch : PortPhase → Type 0 = λ port. PortHolds lane.open_fetch port (option_map fetch_of e.fetch) in
+    let HoldsAccess : PortPhase → Type 0 = λ port. PortHolds lane.open_access port e.access in
     record {
       lawful = law;
       within = omega (arith, works.within, others.kept.cores);
@@ -44,8 +46,8 @@ works-beside {left} {e} {lane} {m} {n} core works law ne others =
         image = works.coupled.image ∙ sym others.kept.image;
         cores = works.coupled.cores ∙ sym others.kept.cores;
         sound = works.coupled.sound;
-        fetch = subst HoldsFetch (sym (mark-evolves _ _ (others.ports (Fetch lane.core) ne))) works.coupled.fetch;
-        access = subst HoldsAccess (sym (mark-evolves _ _ (others.ports (Access lane.core) ne))) works.coupled.access;
+        fetch = subst HoldsFetch (sym (port_phase-evolves _ _ (others.ports (Fetch lane.core) ne))) works.coupled.fetch;
+        access = subst HoldsAccess (sym (port_phase-evolves _ _ (others.ports (Access lane.core) ne))) works.coupled.access;
       };
       live = works.live;
       clocks = works.clocks;

@@ -1,2 +1,3 @@
 pub mod AtWorkLaws
 pub mod ScriptLaws
+pub mod TurnLaws

@@ -1,3 +1,4 @@
 pub mod AtWork
 pub mod Eager
 pub mod Script
+pub mod Turns

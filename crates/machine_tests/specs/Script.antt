@@ -5,15 +5,15 @@ use Rattle.mem_port.specs.declared.port.Port.TheVariants.{Fetch, Access}
 use Rattle.mem_port.specs.declared.port.PortState.{PortState}
 use Rattle.mem_port.specs.declared.port.PortState.TheVariants.{Free}
 use Rattle.mem_port.specs.Memory.{MemoryView, IsLawful}
-use Rattle.mem_port.specs.Side.{Unasked, mark}
+use Rattle.mem_port.specs.Side.{Unasked, port_phase}
 
--- Each core has so many asks left, and its access port has the mark of what the script made of it.
+-- Each core has so many asks left, and its access port has the phase of what the script made of it.
 pub record Fits (made : List PortState) (left : ℕ) (m : MemoryView) : Type 0 where
   pub lawful : IsLawful m
   pub cores : m.cores ≡ 2
   -- The word stands behind the code and within memory.
   pub code_ends : 4 * length m.image.code ≤ 256
   pub memory_ends : 256 < memory_bytes m.image
-  pub fetches : (core : ℕ) → core < 2 → mark (m.port (Fetch core)) ≡ Unasked
-  pub accesses : (core : ℕ) → core < 2 → mark (m.port (Access core)) ≡ mark (slice_index_or made core Free)
+  pub fetches : (core : ℕ) → core < 2 → port_phase (m.port (Fetch core)) ≡ Unasked
+  pub accesses : (core : ℕ) → core < 2 → port_phase (m.port (Access core)) ≡ port_phase (slice_index_or made core Free)
   pub asks : (core : ℕ) → core < 2 → left ≤ m.asks_left (Access core)

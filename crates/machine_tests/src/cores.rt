@@ -3,7 +3,7 @@
 ghost use Rattle.std.specs.Prelude.{◌≤◌};
 
 use access_log::Item;
-use core_run::{plain_seats, run_seats};
+use core_run::{plain_slots, run_slots};
 use image_file::{Image, read_image};
 use mem_port::FlatMemory;
 use queued_memory::QueuedMemory;
@@ -25,9 +25,9 @@ fn run(alloc: Global, image: &Image, cores: u32, budget: u32) -> Result<Outcome,
 {
     let flat = FlatMemory::new(alloc, image, cores, budget)?;
     let memory = QueuedMemory::new(alloc, flat, cores)?;
-    let seats = plain_seats(alloc, image, cores)?;
+    let slots = plain_slots(alloc, image, cores)?;
     let ends = Vec::with_capacity(alloc, cores as usize)?;
-    Ok(run_seats(alloc, memory, seats, ends, budget))
+    Ok(run_slots(alloc, memory, slots, ends, budget))
 }
 
 /// Whether the cores ended after these cycles and executed instructions, each at its `halt` or with
@@ -43,8 +43,8 @@ fn are_ended(cores: &[CoreEnd], budget: u32, ends: &[(u32, u32)]) -> bool {
 /// Whether the first so many cores have stored, in their order.
 fn have_stored(order: &[Item], stores: usize) -> bool {
     order.len() == stores
-        && order.iter().enumerate().all(|(place, item)| match item {
-            Item::Done(entry) => entry.core as usize == place && entry.new.is_some(),
+        && order.iter().enumerate().all(|(index, item)| match item {
+            Item::Done(entry) => entry.core as usize == index && entry.new.is_some(),
             Item::Bus(_) => false,
         })
 }

@@ -121,10 +121,14 @@ fn store(rt: &impl Abort, alloc: Global) -> Result<Image, Fail>
 }
 
 /// A queue for so many cores, each of which may ask 100 times on a port.
-fn start(alloc: Global, image: &Image, cores: u32) -> Result<QueuedMemory<FlatMemory>, Fail>
+fn start<'a>(
+    alloc: Global,
+    image: &'a Image,
+    cores: u32,
+) -> Result<QueuedMemory<FlatMemory<'a>>, Fail>
     requires some_cores { 1 ≤ cores }
     requires cores { cores ≤ 8 }
-    ensures fresh { IfOk result (λ m. IsFresh image.now cores 100 None (⟦<QueuedMemory<FlatMemory> as MemoryCore>⟧.view m)) }
+    ensures fresh { IfOk result (λ m. IsFresh image.now cores 100 None (⟦<QueuedMemory<FlatMemory<'static>> as MemoryCore>⟧.view m)) }
 {
     let memory = FlatMemory::new(alloc, image, cores, 100)?;
     Ok(QueuedMemory::new(alloc, memory, cores)?)

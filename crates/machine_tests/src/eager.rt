@@ -79,9 +79,9 @@ impl CoreEngine for Eager<'_> {
     ghost view = { λ e. eager_view e.image.now e.core e.cores e.state e.fetch e.access e.is_live e.clocks_left };
 
     /// It tells nothing of its times.
-    ghost timed = { λ pace e. ⊥ };
+    ghost timed = { λ history e. ⊥ };
 
-    ghost uses = { λ pace e told. absurd told };
+    ghost uses = { λ history e told. absurd told };
 
     fn want_fetch(&self) -> Option<u32> {
         self.fetch

@@ -1,6 +1,6 @@
-//! The places of a core's entries in a history.
+//! Where a core's entries stand in a history.
 ghost use Rattle.std.specs.Prelude.{◌≡◌, ◌<◌};
-ghost use Rattle.access_log.specs.Places.{IsOfCore};
+ghost use Rattle.access_log.specs.Indices.{IsOfCore};
 
 use access_log::{Entry, History, Item, Letter, Transaction};
 use mips_isa::Kind;
@@ -41,7 +41,7 @@ fn a_history_links_the_entries_of_a_core(rt: HostRuntime) -> Result<(), Fail> {
     history.push(load(0, 5));
     history.push(load(7, 9));
     history.push(load(0, 6));
-    let before = [0, 1, 2, 3, 4, 5, 6, u32::MAX].map(|place| history.before(place));
+    let before = [0, 1, 2, 3, 4, 5, 6, u32::MAX].map(|index| history.before(index));
     assert!(rt; before == [None, None, None, Some(0), Some(2), Some(3), None, None]);
     let last = [0, 7, 1, 8, u32::MAX].map(|core| history.last_of(core));
     assert!(rt; last == [Some(5), Some(4), None, None, None]);

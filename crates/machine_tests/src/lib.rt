@@ -13,3 +13,5 @@ mod histories;
 mod images;
 #[cfg(test)]
 mod memories;
+#[cfg(test)]
+mod turns;

@@ -131,7 +131,7 @@ fn answer_in(withdrawal: Withdrawal) -> Option<u32> {
 }
 
 /// The image of `halt`.
-fn halt(rt: &impl Abort, alloc: Global) -> Result<Image, Fail>
+pub(crate) fn halt(rt: &impl Abort, alloc: Global) -> Result<Image, Fail>
     ensures code { IfOk result (λ image. length image.code ≡ 2) }
     ensures lines { IfOk result (λ image. image.memory_lines ≡ 8192) }
 {
@@ -141,11 +141,12 @@ fn halt(rt: &impl Abort, alloc: Global) -> Result<Image, Fail>
 }
 
 /// A queue round flat memory, in which each core may ask ten times.
-fn start(rt: &impl Abort, alloc: Global) -> Result<Script<QueuedMemory<FlatMemory>>, Fail>
-    ensures fits { IfOk result (λ script. Fits script.made script.left (⟦<QueuedMemory<FlatMemory> as MemoryCore>⟧.view script.memory)) }
+fn start<'a>(alloc: Global, image: &'a Image) -> Result<Script<QueuedMemory<FlatMemory<'a>>>, Fail>
+    requires code { length image.now.code ≡ 2 }
+    requires lines { image.now.memory_lines ≡ 8192 }
+    ensures fits { IfOk result (λ script. Fits script.made script.left (⟦<QueuedMemory<FlatMemory<'static>> as MemoryCore>⟧.view script.memory)) }
 {
-    let image = halt(rt, alloc)?;
-    let memory = FlatMemory::new(alloc, &image, 2, 10)?;
+    let memory = FlatMemory::new(alloc, image, 2, 10)?;
     Ok(Script {
         memory: QueuedMemory::new(alloc, memory, 2)?,
         made: [PortState::Free; 2],
@@ -223,9 +224,10 @@ fn check_ends<M: MemoryCore>(rt: &impl Abort, mut script: Script<M>)
 
 #[test]
 fn requests_wait_in_a_queue(rt: HostRuntime) -> Result<(), Fail> {
-    check_waits(&rt, &mut start(&rt, rt.alloc())?);
-    check_next(&rt, &mut start(&rt, rt.alloc())?);
-    check_overtakes(&rt, &mut start(&rt, rt.alloc())?);
-    check_ends(&rt, start(&rt, rt.alloc())?);
+    let image = halt(&rt, rt.alloc())?;
+    check_waits(&rt, &mut start(rt.alloc(), &image)?);
+    check_next(&rt, &mut start(rt.alloc(), &image)?);
+    check_overtakes(&rt, &mut start(rt.alloc(), &image)?);
+    check_ends(&rt, start(rt.alloc(), &image)?);
     Ok(())
 }

@@ -42,11 +42,13 @@ change-lawful p state old new law h = rw (h.kept.image, h.kept.cores, h.kept.cac
   good = law.good;
   legal = h.legal;
   follows = h.follows;
-  within = λ core le. h.others core (λ e. (let f : core ≡ core_of p = ap core_of e in let below = h.below in absurd (omega arith))) ∙ law.within core le;
+  within = λ core le. h.others core (λ e. (let f : core ≡ core_of p = ap core_of e in let below = h.below in absurd (omega arith)))
+      ∙ law.within core le;
   proper = each-port p state old.port new.port h.is h.ports (λ q s. HoldsProper old.image q s) h.proper (λ q ne. law.proper q);
   fetched = λ core. each-port p state old.port new.port h.is h.ports (λ q s. (k : ℕ) → Fetch k ≡ q → HoldsCode old.image s) h.code
       (λ q ne k e. (let C : Port → Type 0 = λ r. HoldsCode old.image (old.port r) in subst C e (law.fetched k))) (Fetch core) core refl;
-  served = λ core. each-port p state old.port new.port h.is h.ports (λ q s. (k : ℕ) → Access k ≡ q → HoldsEntry k (own_items new.history k) s) h.entry
+  served = λ core. each-port p state old.port new.port h.is h.ports
+      (λ q s. (k : ℕ) → Access k ≡ q → HoldsEntry k (own_items new.history k) s) h.entry
       (λ q ne k e. (
       let own = h.others k (λ same. ne (sym e ∙ same)) in
       let E : List Entry → Type 0 = λ es. HoldsEntry k es (old.port (Access k)) in

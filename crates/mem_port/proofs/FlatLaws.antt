@@ -1,5 +1,6 @@
 -- A memory that answers each request as it is served keeps the law.
-use Rattle.std.proofs.Common.{◌≡◌, ◌≢◌, ℕ, zero, suc, ◌+◌, ◌*◌, ◌<◌, ◌≤◌, inl, inr, List, [], ◌∷◌, ◌++◌, length, get_or, append-nil, refl, ap, sym, ◌∙◌, arith, subst, None}
+use Rattle.std.proofs.Common.{◌≡◌, ◌≢◌, ℕ, zero, suc, ◌+◌, ◌*◌, ◌<◌, ◌≤◌, inl, inr, List, [], ◌∷◌, ◌++◌, length, get_or, append-nil, refl}
+use Rattle.std.proofs.Common.{ap, sym, ◌∙◌, arith, subst, None}
 use Rattle.std.specs.Prelude.{slice_set, replicate}
 use Rattle.std.specs.List.{sum_by}
 use Rattle.std.proofs.lemmas.List.{get_or_default, get_or-replicate}
@@ -19,7 +20,7 @@ use Rattle.mem_port.specs.declared.port.PortState.TheVariants.{Free, Asked, Answ
 use Rattle.mem_port.specs.declared.cell.Cell.{Cell}
 use Rattle.mem_port.specs.Ports.{core_of, MayAsk, IsWaiting, HoldsProper, HoldsCode, HoldsEntry, but_last, items_of}
 use Rattle.mem_port.specs.Memory.{IsLawful, IsFresh}
-use Rattle.mem_port.specs.Flat.{place_of, no_cell, cell_at, flat, IsFound, pending, weight}
+use Rattle.mem_port.specs.Flat.{index_of, no_cell, cell_at, flat, IsFound, pending, weight}
 use Rattle.mem_port.proofs.CellLaws.{cell-same, cell-other}
 use Rattle.mem_port.proofs.ChangeLaws.{change-lawful}
 use Rattle.mem_port.proofs.PortLaws.{cases_port, but_last-append, own-answered_other, own-answered_same}
@@ -35,14 +36,16 @@ record IsCellChange (image : ImageValue) (p : Port) (state : PortState) (old new
   rests : IsWaiting state → ⊥
 
 -- The law after a change of one cell, and maybe of the items.
-lawful-after : (image : ImageValue) (cores : ℕ) (cells : List Cell) (p : Port) (place : ℕ) (cell : Cell) (old new : List Item) → place ≡ place_of p → place < length cells → core_of p < cores →
-    IsLawful (flat image cores old cells) → IsCellChange image p cell.state old new → IsLawful (flat image cores new (slice_set cells place cell))
-lawful-after image cores cells p place cell old new at within below law change =
-    change-lawful p cell.state (flat image cores old cells) (flat image cores new (slice_set cells place cell)) law (record {
+lawful-after : (image : ImageValue) (cores : ℕ) (cells : List Cell) (p : Port) (index : ℕ) (cell : Cell) (old new : List Item)
+    → index ≡ index_of p → index < length cells → core_of p < cores →
+    IsLawful (flat image cores old cells) → IsCellChange image p cell.state old new
+    → IsLawful (flat image cores new (slice_set cells index cell))
+lawful-after image cores cells p index cell old new at within below law change =
+    change-lawful p cell.state (flat image cores old cells) (flat image cores new (slice_set cells index cell)) law (record {
       kept = record { image = refl; cores = refl; caches = refl; tells_distances = refl; bound = refl; tells_load = refl };
       below = below;
-      is = ap (λ (c : Cell). c.state) (cell-same cells p place cell at within);
-      ports = λ q ne. ap (λ (c : Cell). c.state) (cell-other cells p place cell at within q ne);
+      is = ap (λ (c : Cell). c.state) (cell-same cells p index cell at within);
+      ports = λ q ne. ap (λ (c : Cell). c.state) (cell-other cells p index cell at within q ne);
       legal = change.legal;
       follows = change.no_bus;
       others = change.others;
@@ -54,18 +57,23 @@ lawful-after image cores cells p place cell old new at within below law change =
       unloaded = λ t free. refl;
     })
   where
-    rests : (q : Port) → IsWaiting (cell_at (slice_set cells place cell) q).state → ⊥
+    rests : (q : Port) → IsWaiting (cell_at (slice_set cells index cell) q).state → ⊥
     rests q w =
         elim (cases_port p q) as (λ _. ⊥) [
-          | inl e ↦ (let W : Port → Type 0 = λ r. IsWaiting (cell_at (slice_set cells place cell) r).state in change.rests (subst (λ (c : Cell). IsWaiting c.state) (cell-same cells p place cell at within) (subst W e w)))
-          | inr ne ↦ (let b = law.waiting q (subst (λ (c : Cell). IsWaiting c.state) (cell-other cells p place cell at within q ne) w) in cc)
+          | inl e ↦ (let W : Port → Type 0 = λ r. IsWaiting (cell_at (slice_set cells index cell) r).state
+              in change.rests (subst (λ (c : Cell). IsWaiting c.state) (cell-same cells p index cell at within) (subst W e w)))
+          | inr ne ↦ (let b = law.waiting q (subst (λ (c : Cell). IsWaiting c.state) (cell-other cells p index cell at within q ne) w)
+              in cc)
         ]
 
 -- A call that makes no entry, and leaves its port free, asked or closed.
-pub quiet-lawful : (image : ImageValue) (cores : ℕ) (cells : List Cell) (p : Port) (place : ℕ) (cell : Cell) (items : List Item) → place ≡ place_of p → place < length cells → core_of p < cores →
-    IsLawful (flat image cores items cells) → HoldsProper image p cell.state → HoldsCode image cell.state → ((core : ℕ) → HoldsEntry core (own_items items core) cell.state) → (IsWaiting cell.state → ⊥) → IsLawful (flat image cores items (slice_set cells place cell))
-quiet-lawful image cores cells p place cell items at within below law proper code entry rests =
-    lawful-after image cores cells p place cell items items at within below law (record {
+pub quiet-lawful : (image : ImageValue) (cores : ℕ) (cells : List Cell) (p : Port) (index : ℕ) (cell : Cell) (items : List Item)
+    → index ≡ index_of p → index < length cells → core_of p < cores →
+    IsLawful (flat image cores items cells) → HoldsProper image p cell.state → HoldsCode image cell.state
+    → ((core : ℕ) → HoldsEntry core (own_items items core) cell.state) → (IsWaiting cell.state → ⊥)
+    → IsLawful (flat image cores items (slice_set cells index cell))
+quiet-lawful image cores cells p index cell items at within below law proper code entry rests =
+    lawful-after image cores cells p index cell items items at within below law (record {
       legal = law.legal;
       no_bus = law.follows;
       others = λ core ne. refl;
@@ -75,78 +83,98 @@ quiet-lawful image cores cells p place cell items at within below law proper cod
       rests = rests;
     })
 
-legal-entry : (core : ℕ) (r : Request) (word : ℕ) (memory : List ℕ) → word ≡ old_at memory r → (entry_of core r word).old ≡ part (entry_of core r word).kind (entry_of core r word).addr (word_at memory (entry_of core r word).addr)
+legal-entry : (core : ℕ) (r : Request) (word : ℕ) (memory : List ℕ) → word ≡ old_at memory r
+    → (entry_of core r word).old ≡ part (entry_of core r word).kind (entry_of core r word).addr (word_at memory (entry_of core r word).addr)
 unfolding entry_of access_of old_at
 legal-entry core r word memory e = e
 
-answer-legal : (image : ImageValue) (items : List Item) (p : Port) (r : Request) (word : ℕ) → IsFound image (after_items (start_memory image) items) p r word → IsLegal (start_memory image) items → IsLegal (start_memory image) (items ++ items_of p r word)
+answer-legal : (image : ImageValue) (items : List Item) (p : Port) (r : Request) (word : ℕ)
+    → IsFound image (after_items (start_memory image) items) p r word → IsLegal (start_memory image) items
+    → IsLegal (start_memory image) (items ++ items_of p r word)
 answer-legal image items (Fetch core) r word found legal = rw (append-nil items) legal
-answer-legal image items (Access core) r word found legal = IsLegal-append (start_memory image) items (items_of (Access core) r word) legal (legal-entry core r word (after_items (start_memory image) items) found, tt)
+answer-legal image items (Access core) r word found legal =
+    IsLegal-append (start_memory image) items (items_of (Access core) r word) legal
+    (legal-entry core r word (after_items (start_memory image) items) found, tt)
 
 answer-no_bus : (p : Port) (r : Request) (word : ℕ) → transactions (items_of p r word) ≡ []
 answer-no_bus (Fetch core) r word = refl
 answer-no_bus (Access core) r word = refl
 
-answer-other : (items : List Item) (p : Port) (r : Request) (word core : ℕ) → Access core ≢ p → own_items (items ++ items_of p r word) core ≡ own_items items core
+answer-other : (items : List Item) (p : Port) (r : Request) (word core : ℕ) → Access core ≢ p
+    → own_items (items ++ items_of p r word) core ≡ own_items items core
 answer-other items (Fetch c) r word core ne = ap (λ t. own_items t core) (append-nil items)
 answer-other items (Access c) r word core ne = own-answered_other items (Access c) r word core (λ e. ne (ap Access e))
 
-answer-code : (image : ImageValue) (words : List ℕ) (p : Port) (r : Request) (word core : ℕ) → IsFound image words p r word → Fetch core ≡ p → HoldsCode image (Answered r word)
+answer-code : (image : ImageValue) (words : List ℕ) (p : Port) (r : Request) (word core : ℕ) → IsFound image words p r word → Fetch core ≡ p
+    → HoldsCode image (Answered r word)
 answer-code image words (Fetch c) r word core found e = found
 answer-code image words (Access c) r word core found e = cc
 
-entry-last : (items : List Item) (core : ℕ) (r : Request) (word : ℕ) → HoldsEntry core (own_items (items ++ items_of (Access core) r word) core) (Answered r word)
+entry-last : (items : List Item) (core : ℕ) (r : Request) (word : ℕ)
+    → HoldsEntry core (own_items (items ++ items_of (Access core) r word) core) (Answered r word)
 entry-last items core r word =
     let e = own-answered_same items core r word in
     e ∙ ap (λ t. t ++ entry_of core r word ∷ []) (sym (ap but_last e ∙ but_last-append (own_items items core) (entry_of core r word)))
 
-asked-may : (image : ImageValue) (cores : ℕ) (cells : List Cell) (p : Port) (place : ℕ) (cell : Cell) (r : Request) (items : List Item) → place ≡ place_of p → place < length cells → IsLawful (flat image cores items cells) → cell ≡ get_or cells place cell → cell.state ≡ Asked r → MayAsk image p r
-asked-may image cores cells p place cell r items at within law read asked =
+asked-may : (image : ImageValue) (cores : ℕ) (cells : List Cell) (p : Port) (index : ℕ) (cell : Cell) (r : Request) (items : List Item)
+    → index ≡ index_of p → index < length cells → IsLawful (flat image cores items cells) → cell ≡ get_or cells index cell
+    → cell.state ≡ Asked r → MayAsk image p r
+asked-may image cores cells p index cell r items at within law read asked =
     let S : PortState → Type 0 = λ s. HoldsProper image p s in
-    let here : cell_at cells p ≡ cell = ap (λ i. get_or cells i no_cell) (sym at) ∙ (get_or_default cells place no_cell cell within ∙ sym read) in
+    let here : cell_at cells p ≡ cell = ap (λ i. get_or cells i no_cell) (sym at)
+    ∙ (get_or_default cells index no_cell cell within ∙ sym read) in
     subst S (ap (λ (c : Cell). c.state) here ∙ asked) (law.proper p)
 
 -- A request that was asked is answered with the word that is there.
-pub served-lawful : (image : ImageValue) (cores : ℕ) (cells : List Cell) (p : Port) (place : ℕ) (cell : Cell) (r : Request) (word : ℕ) (items : List Item) → place ≡ place_of p → place < length cells → core_of p < cores →
-    IsLawful (flat image cores items cells) → cell ≡ get_or cells place cell → cell.state ≡ Asked r → IsFound image (after_items (start_memory image) items) p r word →
-    IsLawful (flat image cores (items ++ items_of p r word) (slice_set cells place (record { state = Answered r word; asks = cell.asks })))
-served-lawful image cores cells p place cell r word items at within below law read asked found =
-    lawful-after image cores cells p place (record { state = Answered r word; asks = cell.asks }) items (items ++ items_of p r word) at within below law (record {
+pub served-lawful : (image : ImageValue) (cores : ℕ) (cells : List Cell) (p : Port) (index : ℕ) (cell : Cell) (r : Request) (word : ℕ)
+    (items : List Item) → index ≡ index_of p → index < length cells → core_of p < cores →
+    IsLawful (flat image cores items cells) → cell ≡ get_or cells index cell → cell.state ≡ Asked r
+    → IsFound image (after_items (start_memory image) items) p r word →
+    IsLawful (flat image cores (items ++ items_of p r word) (slice_set cells index (record { state = Answered r word; asks = cell.asks })))
+served-lawful image cores cells p index cell r word items at within below law read asked found =
+    lawful-after image cores cells p index (record { state = Answered r word; asks = cell.asks }) items (items ++ items_of p r word) at
+    within below law (record {
       legal = answer-legal image items p r word found law.legal;
       no_bus = transactions-append items (items_of p r word) ∙ (rw (law.follows, answer-no_bus p r word) refl);
       others = λ core ne. answer-other items p r word core ne;
-      proper = asked-may image cores cells p place cell r items at within law read asked;
+      proper = asked-may image cores cells p index cell r items at within law read asked;
       code = λ core e. answer-code image (after_items (start_memory image) items) p r word core found e;
-      entry = λ core e. (let P : Port → Type 0 = λ q. HoldsEntry core (own_items (items ++ items_of q r word) core) (Answered r word) in subst P e (entry-last items core r word));
+      entry = λ core e. (let P : Port
+          → Type 0 = λ q. HoldsEntry core (own_items (items ++ items_of q r word) core) (Answered r word)
+          in subst P e (entry-last items core r word));
       rests = λ w. w;
     })
 
 -- Memory is what the items leave, those that were added too.
-pub words-after : (memory words now : List ℕ) (old more new : List Item) → words ≡ after_items memory old → now ≡ after_items words more → new ≡ old ++ more → now ≡ after_items memory new
-words-after memory words now old more new h e f = e ∙ (ap (λ m. after_items m more) h ∙ (sym (after_items-append memory old more) ∙ ap (after_items memory) (sym f)))
+pub words-after : (memory words now : List ℕ) (old more new : List Item) → words ≡ after_items memory old → now ≡ after_items words more
+    → new ≡ old ++ more → now ≡ after_items memory new
+words-after memory words now old more new h e f = e
+    ∙ (ap (λ m. after_items m more) h ∙ (sym (after_items-append memory old more) ∙ ap (after_items memory) (sym f)))
 
 -- A cell that is served makes at most one item.
-pub room-after : (cells : List Cell) (place : ℕ) (cell : Cell) (r : Request) (word spare left : ℕ) → place < length cells → cell ≡ get_or cells place cell → cell.state ≡ Asked r → sum_by weight cells ≤ spare → spare ≤ left + 1 →
-    sum_by weight (slice_set cells place (record { state = Answered r word; asks = cell.asks })) ≤ left
-room-after cells place cell r word spare left within read asked h k =
-    let s = sum_by-set weight cells place (record { state = Answered r word; asks = cell.asks }) cell within in
-    let a : weight (get_or cells place cell) ≡ weight cell = ap weight (sym read) in
+pub room-after : (cells : List Cell) (index : ℕ) (cell : Cell) (r : Request) (word spare left : ℕ) → index < length cells
+    → cell ≡ get_or cells index cell → cell.state ≡ Asked r → sum_by weight cells ≤ spare → spare ≤ left + 1 →
+    sum_by weight (slice_set cells index (record { state = Answered r word; asks = cell.asks })) ≤ left
+room-after cells index cell r word spare left within read asked h k =
+    let s = sum_by-set weight cells index (record { state = Answered r word; asks = cell.asks }) cell within in
+    let a : weight (get_or cells index cell) ≡ weight cell = ap weight (sym read) in
     let b : pending cell.state ≡ 1 = ap pending asked in
     omega (arith, s, a, b)
 
 -- Before the first call.
 
-free-all : (n place asks : ℕ) → (get_or (replicate n (record { state = Free; asks = asks })) place no_cell).state ≡ Free
-free-all zero place asks = refl
+free-all : (n index asks : ℕ) → (get_or (replicate n (record { state = Free; asks = asks })) index no_cell).state ≡ Free
+free-all zero index asks = refl
 free-all (suc n) zero asks = refl
-free-all (suc n) (suc place) asks = free-all n place asks
+free-all (suc n) (suc index) asks = free-all n index asks
 
-place-below : (p : Port) (n : ℕ) → core_of p < n → place_of p < 2 * n
-place-below (Fetch core) n h = omega arith
-place-below (Access core) n h = omega arith
+index_of-below : (p : Port) (n : ℕ) → core_of p < n → index_of p < 2 * n
+index_of-below (Fetch core) n h = omega arith
+index_of-below (Access core) n h = omega arith
 
 -- With no items and free cells the law holds.
-free-lawful : (image : ImageValue) (cores : ℕ) (cells : List Cell) → IsGood image → ((port : Port) → (cell_at cells port).state ≡ Free) → IsLawful (flat image cores [] cells)
+free-lawful : (image : ImageValue) (cores : ℕ) (cells : List Cell) → IsGood image → ((port : Port) → (cell_at cells port).state ≡ Free)
+    → IsLawful (flat image cores [] cells)
 free-lawful image cores cells good free = record {
   good = good;
   legal = tt;
@@ -163,17 +191,19 @@ free-lawful image cores cells good free = record {
     rests : (q : Port) → IsWaiting (cell_at cells q).state → ⊥
     rests q w = let P : PortState → Type 0 = λ s. IsWaiting s in subst P (free q) w
 
-pub fresh-flat : (image copy : ImageValue) (cores asks : ℕ) (items : List Item) (cells : List Cell) → copy ≡ image → IsGood copy → items ≡ [] → cells ≡ replicate (2 * cores) (record { state = Free; asks = asks }) →
-    IsFresh image cores asks None (flat copy cores items cells)
-fresh-flat image copy cores asks items cells e good none all =
-    let R : ImageValue → Type 0 = λ x. IsGood x in
-    rw (e, none, all) (record {
-      lawful = free-lawful image cores (replicate (2 * cores) (record { state = Free; asks = asks })) (subst R e good) (λ p. free-all (2 * cores) (place_of p) asks);
+pub fresh-flat : (image : ImageValue) (cores asks : ℕ) (items : List Item) (cells : List Cell) → IsGood image
+    → items ≡ [] → cells ≡ replicate (2 * cores) (record { state = Free; asks = asks }) →
+    IsFresh image cores asks None (flat image cores items cells)
+fresh-flat image cores asks items cells good none all =
+    rw (none, all) (record {
+      lawful = free-lawful image cores (replicate (2 * cores) (record { state = Free; asks = asks })) good
+          (λ p. free-all (2 * cores) (index_of p) asks);
       image_is = refl;
       cores_are = refl;
       caches_are = refl;
       history = refl;
-      ports = λ p. free-all (2 * cores) (place_of p) asks;
-      asks_left = λ p lt. ap (λ (c : Cell). c.asks) (get_or-replicate (2 * cores) (place_of p) (record { state = Free; asks = asks }) no_cell (place-below p cores lt));
+      ports = λ p. free-all (2 * cores) (index_of p) asks;
+      asks_left = λ p lt. ap (λ (c : Cell). c.asks)
+          (get_or-replicate (2 * cores) (index_of p) (record { state = Free; asks = asks }) no_cell (index_of-below p cores lt));
       idle = refl;
     })

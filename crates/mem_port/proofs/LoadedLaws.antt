@@ -21,17 +21,20 @@ asked-nth : (nth : ℕ) (access : Access) → (asked nth access).nth ≡ nth
 unfolding asked
 asked-nth nth access = refl
 
-asked-may : (code_bytes memory_bytes nth : ℕ) (access : Access) → MayAccess code_bytes memory_bytes access.kind access.addr → MayAccess code_bytes memory_bytes (asked nth access).kind (asked nth access).addr
+asked-may : (code_bytes memory_bytes nth : ℕ) (access : Access) → MayAccess code_bytes memory_bytes access.kind access.addr
+    → MayAccess code_bytes memory_bytes (asked nth access).kind (asked nth access).addr
 unfolding asked
 asked-may code_bytes memory_bytes nth access h = h
 
-asks-case : (n : ℕ) (next : Next) (r : Request) → request_in n next ≡ Some r → (access : Access) × ((next ≡ Asks access) × (r ≡ asked n access))
+asks-case : (n : ℕ) (next : Next) (r : Request) → request_in n next ≡ Some r → (access : Access)
+    × ((next ≡ Asks access) × (r ≡ asked n access))
 asks-case n (Stops why) r h = cc
 asks-case n (Goes state) r h = cc
 asks-case n (Asks access) r h = (access, (refl, sym (same_Some (asked n access) r h)))
 
 -- A core that asks for a request makes that access next, and the request has the number of its instructions.
-pub request-asks : (image : ImageValue) (n : ℕ) (state : CoreState) (r : Request) → request image n state ≡ Some r → (next_in image state ≡ Asks (access_of r)) × (r.nth ≡ n)
+pub request-asks : (image : ImageValue) (n : ℕ) (state : CoreState) (r : Request) → request image n state ≡ Some r
+    → (next_in image state ≡ Asks (access_of r)) × (r.nth ≡ n)
 unfolding request
 request-asks image n state r h =
     let f = asks-case n (next_in image state) r h in
@@ -43,7 +46,8 @@ pub request-nth : (image : ImageValue) (n : ℕ) (state : CoreState) (r : Reques
 request-nth image n state r h = (request-asks image n state r h).1
 
 -- What a core asks for may be asked.
-pub request-proper : (image : ImageValue) (n : ℕ) (state : CoreState) (r : Request) → request image n state ≡ Some r → IsProperAccess image r.kind r.addr
+pub request-proper : (image : ImageValue) (n : ℕ) (state : CoreState) (r : Request) → request image n state ≡ Some r
+    → IsProperAccess image r.kind r.addr
 unfolding request next_in
 request-proper image n state r h =
     let f = asks-case n (next_in image state) r h in
@@ -56,7 +60,8 @@ no_stop-case n (Asks access) r h = refl
 no_stop-case n (Goes state) r h = refl
 
 -- An access is asked for only where there is no stop.
-pub request-no_stop : (image : ImageValue) (n : ℕ) (state : CoreState) (r : Request) → request image n state ≡ Some r → stop image state ≡ None
+pub request-no_stop : (image : ImageValue) (n : ℕ) (state : CoreState) (r : Request) → request image n state ≡ Some r
+    → stop image state ≡ None
 unfolding request stop
 request-no_stop image n state r h = no_stop-case n (next_in image state) r h
 
@@ -66,7 +71,8 @@ goes-case n state (Asks access) h k = cc
 goes-case n state (Goes new) h k = refl
 
 -- Where there is neither a stop nor an access, there is a quiet step.
-pub next-goes : (image : ImageValue) (n : ℕ) (state : CoreState) → stop image state ≡ None → request image n state ≡ None → next_in image state ≡ Goes (quiet image state)
+pub next-goes : (image : ImageValue) (n : ℕ) (state : CoreState) → stop image state ≡ None → request image n state ≡ None
+    → next_in image state ≡ Goes (quiet image state)
 unfolding stop request quiet
 next-goes image n state h k = goes-case n state (next_in image state) h k
 
@@ -87,6 +93,7 @@ pub goes-quiet : (image : ImageValue) (state new : CoreState) → next_in image 
 unfolding quiet
 goes-quiet image state new e = sym (ap (quiet_in state) e)
 
-pub asks-request : (image : ImageValue) (n : ℕ) (state : CoreState) (access : Access) → next_in image state ≡ Asks access → request image n state ≡ Some (asked n access)
+pub asks-request : (image : ImageValue) (n : ℕ) (state : CoreState) (access : Access) → next_in image state ≡ Asks access
+    → request image n state ≡ Some (asked n access)
 unfolding request
 asks-request image n state access e = ap (request_in n) e

@@ -1,7 +1,11 @@
 -- A caller that has a memory for itself keeps the law of a core's side: what each call leaves of the other cores, what it
 -- means to its own, and who pays for its steps.
-use Rattle.std.proofs.Common.{◌≡◌, ◌≢◌, ℕ, ◌+◌, ◌-◌, ◌*◌, ◌≤◌, inl, inr, Bool, false, IsTrue, Option, Some, None, List, [], ◌++◌, append_assoc, append-nil, refl, ap, sym, ◌∙◌, subst, arith}
+use Rattle.std.proofs.Common.{◌≡◌, ◌≢◌, ℕ, ◌+◌, ◌-◌, ◌*◌, ◌≤◌, inl, inr, Bool, false, IsTrue, Option, Some, None, List, [], ◌++◌}
+use Rattle.std.proofs.Common.{append_assoc, append-nil, refl, ap, sym, ◌∙◌, subst, arith, add-zero}
 use Rattle.std.proofs.lemmas.Bool.{cases_eq}
+use Rattle.std.proofs.Math.Path.{subst⁻¹}
+use Rattle.std.proofs.Math.Nat.{le_trans, le_of_suc-le}
+use Rattle.std.proofs.Math.Numerals.{add-one}
 use Rattle.access_log.specs.Items.{own_items}
 use Rattle.access_log.specs.Requests.{entry_of}
 use Rattle.access_log.specs.declared.Entry.{Entry}
@@ -17,14 +21,13 @@ use Rattle.mem_port.specs.declared.port.Withdrawal.TheVariants as withdrawal
 use Rattle.mem_port.specs.declared.port.PortState.{PortState}
 use Rattle.mem_port.specs.declared.port.PortState.TheVariants.{Free, Asked, Waiting, Answered, Closed}
 use Rattle.mem_port.specs.Ports.{core_of, IsWaiting, but_last, taken_of, items_of}
-use Rattle.mem_port.specs.Memory.{MemoryView, IsLawful, Keeps, LeavesPorts, Asks, Serves, Answers, Moves, Same, Steps, Leaves, Takes, Withdraws, steps_of_request, committed, bus_items}
-use Rattle.mem_port.specs.Side.{mark, Evolves, KeepsSide, LeavesPort, SideServes, SideStays, SideSteps, LeavesOthers, Paid, energy, patience_of, side_of}
+use Rattle.mem_port.specs.Memory.{MemoryView, IsLawful, Keeps, LeavesPorts, Asks, Serves, Answers, Moves, Same, Steps, Leaves, Takes}
+use Rattle.mem_port.specs.Memory.{Withdraws, steps_of_request, committed, bus_items}
+use Rattle.mem_port.specs.Side.{port_phase, Evolves, KeepsSide, LeavesPort, SideServes, SideStays, SideSteps, LeavesOthers, Paid, potential}
+use Rattle.mem_port.specs.Side.{remaining_wait_of, side_of}
 use Rattle.mem_port.proofs.PortLaws.{cases_port, but_last-append, own-answered_other, own-answered_same, own-bus_after}
 
 -- Facts that go along an equation.
-
-true_along : {a b : Bool} → b ≡ a → IsTrue a → IsTrue b
-true_along e h = let P : Bool → Type 0 = λ x. IsTrue x in subst P (sym e) h
 
 waiting_along : {a b : PortState} → b ≡ a → IsWaiting b → IsWaiting a
 waiting_along e h = let P : PortState → Type 0 = λ x. IsWaiting x in subst P e h
@@ -41,10 +44,10 @@ access_not_fetch c k e = cc
 fetch_not_access : (c k : ℕ) → Fetch k ≢ Access c
 fetch_not_access c k e = cc
 
--- A port that was answered meanwhile has the mark that it had.
-pub mark-evolves : (a b : PortState) → Evolves a b → mark b ≡ mark a
-mark-evolves a b (inl e) = ap mark e
-mark-evolves a b (inr s) = ap mark s.1.1.1 ∙ sym (ap mark s.1.1.0)
+-- A port that was answered meanwhile has the phase that it had.
+pub port_phase-evolves : (a b : PortState) → Evolves a b → port_phase b ≡ port_phase a
+port_phase-evolves a b (inl e) = ap port_phase e
+port_phase-evolves a b (inr s) = ap port_phase s.1.1.1 ∙ sym (ap port_phase s.1.1.0)
 
 still_waiting : {a b : PortState} → Evolves a b → IsWaiting b → IsWaiting a
 still_waiting {a} {b} (inl e) h = waiting_along e h
@@ -68,9 +71,6 @@ kept_twice h k = record {
   tells_load = k.tells_load ∙ h.tells_load;
 }
 
-le_twice : (x y z : ℕ) → y ≤ x → z ≤ y → z ≤ x
-le_twice x y z h k = omega arith
-
 -- What calls leave of the other cores is reflexive and transitive.
 
 pub stays-view : (core : ℕ) (m : MemoryView) → LeavesOthers core m m
@@ -87,49 +87,65 @@ stays-view core m = record {
 pub goes_on-view : (core : ℕ) (a b d : MemoryView) → LeavesOthers core a b → LeavesOthers core b d → LeavesOthers core a d
 goes_on-view core a b d h k = record {
   kept = kept_twice h.kept k.kept;
-  history = (h.history.0 ++ k.history.0, k.history.1 ∙ (ap (λ t. t ++ k.history.0) h.history.1 ∙ append_assoc a.history h.history.0 k.history.0));
+  history = (
+    h.history.0 ++ k.history.0,
+    k.history.1
+        ∙ (ap (λ t. t ++ k.history.0) h.history.1 ∙ append_assoc a.history h.history.0 k.history.0),
+  );
   ports = λ q ne. evolves-twice (h.ports q ne) (k.ports q ne);
   asks = λ q ne. k.asks q ne ∙ h.asks q ne;
   taken = λ n ne. k.taken n ne ∙ h.taken n ne;
-  distances = λ t q ne w. le_twice _ _ _ (h.distances t q ne (still_waiting (k.ports q ne) w)) (k.distances (true_along h.kept.tells_distances t) q ne w);
-  load = λ t. le_twice _ _ _ (h.load t) (k.load (true_along h.kept.tells_load t));
+  distances = λ t q ne w. le_trans (k.distances (subst⁻¹ (λ (told : Bool). IsTrue told) h.kept.tells_distances t) q ne w)
+      (h.distances t q ne (still_waiting (k.ports q ne) w));
+  load = λ t. le_trans (k.load (subst⁻¹ (λ (told : Bool). IsTrue told) h.kept.tells_load t)) (h.load t);
 }
 
--- Energy.
+-- Potential.
 
 -- Where nothing is asked, steps are paid by the load.
-energy-same : (core steps : ℕ) (old new : MemoryView) → Keeps old new → new.asks_left (Fetch core) ≡ old.asks_left (Fetch core) → new.asks_left (Access core) ≡ old.asks_left (Access core) → new.load + steps ≤ old.load →
-    energy core new + steps ≤ energy core old
-energy-same core steps old new kept f a h = let e = kept.cores in rw (e, f, a) (omega arith)
+potential-same : (core steps : ℕ) (old new : MemoryView) → Keeps old new → new.asks_left (Fetch core) ≡ old.asks_left (Fetch core)
+    → new.asks_left (Access core) ≡ old.asks_left (Access core) → new.load + steps ≤ old.load →
+    potential core new + steps ≤ potential core old
+potential-same core steps old new kept f a h = let e = kept.cores in rw (e, f, a) (omega arith)
 
 -- The load that a request adds is paid by asking it.
-energy_ask : (l m k f g a b : ℕ) → m ≤ l + k → g + 1 ≡ f → b ≡ a → m + k * (g + b) ≤ l + k * (f + a)
-energy_ask l m k f g a b h e i = rw (← e, i) (omega arith)
+potential_ask : (l m k f g a b : ℕ) → m ≤ l + k → g + 1 ≡ f → b ≡ a → m + k * (g + b) ≤ l + k * (f + a)
+potential_ask l m k f g a b h e i = rw (← e, i) (omega arith)
 
-energy_at : (core : ℕ) (old new : MemoryView) → Keeps old new → new.load + steps_of_request old * (new.asks_left (Fetch core) + new.asks_left (Access core)) ≤ energy core old → energy core new ≤ energy core old
-energy_at core old new kept h = rw kept.cores h
+potential_at : (core : ℕ) (old new : MemoryView) → Keeps old new
+    → new.load + steps_of_request old * (new.asks_left (Fetch core) + new.asks_left (Access core)) ≤ potential core old
+    → potential core new ≤ potential core old
+potential_at core old new kept h = rw kept.cores h
 
-asks-load : (p : Port) (r : Request) (old new : MemoryView) → Asks p r old new → IsTrue old.tells_load → energy (core_of p) new ≤ energy (core_of p) old
-asks-load (Fetch c) r old new h t = energy_at c old new h.kept (energy_ask _ _ _ _ _ _ _ (h.load t) h.asks (h.others.asks (Access c) (access_not_fetch c c)))
+asks-load : (p : Port) (r : Request) (old new : MemoryView) → Asks p r old new → IsTrue old.tells_load
+    → potential (core_of p) new ≤ potential (core_of p) old
+asks-load (Fetch c) r old new h t =
+    potential_at c old new h.kept (potential_ask _ _ _ _ _ _ _ (h.load t) h.asks (h.others.asks (Access c) (access_not_fetch c c)))
 asks-load (Access c) r old new h t =
-    energy_at c old new h.kept
-    (let e = energy_ask old.load new.load (steps_of_request old) (old.asks_left (Access c)) (new.asks_left (Access c)) (old.asks_left (Fetch c)) (new.asks_left (Fetch c)) (h.load t) h.asks (h.others.asks (Fetch c) (fetch_not_access c c)) in omega arith)
-
-no_steps : (a b : ℕ) → a + 0 ≤ b → a ≤ b
-no_steps a b h = omega arith
+    potential_at c old new h.kept
+    (let e = potential_ask old.load new.load (steps_of_request old) (old.asks_left (Access c)) (new.asks_left (Access c))
+    (old.asks_left (Fetch c)) (new.asks_left (Fetch c)) (h.load t) h.asks (h.others.asks (Fetch c) (fetch_not_access c c))
+    in omega arith)
 
 -- A call on a port that asks for nothing.
-same-load : (p : Port) (old new : MemoryView) → Keeps old new → LeavesPorts p old new → new.asks_left p ≡ old.asks_left p → new.load ≤ old.load → energy (core_of p) new ≤ energy (core_of p) old
-same-load (Fetch c) old new kept others asks h = no_steps _ _ (energy-same c 0 old new kept asks (others.asks (Access c) (access_not_fetch c c)) (omega arith))
-same-load (Access c) old new kept others asks h = no_steps _ _ (energy-same c 0 old new kept (others.asks (Fetch c) (fetch_not_access c c)) asks (omega arith))
+same-load : (p : Port) (old new : MemoryView) → Keeps old new → LeavesPorts p old new → new.asks_left p ≡ old.asks_left p
+    → new.load ≤ old.load → potential (core_of p) new ≤ potential (core_of p) old
+same-load (Fetch c) old new kept others asks h =
+    rw add-zero at (potential-same c 0 old new kept asks (others.asks (Access c) (access_not_fetch c c)) (omega arith))
+same-load (Access c) old new kept others asks h =
+    rw add-zero at (potential-same c 0 old new kept (others.asks (Fetch c) (fetch_not_access c c)) asks (omega arith))
 
 -- What each call leaves of the other cores.
 
-committed-same : (old new : MemoryView) (core : ℕ) → new.port (Access core) ≡ old.port (Access core) → own_items new.history core ≡ own_items old.history core → committed new core ≡ committed old core
+committed-same : (old new : MemoryView) (core : ℕ) → new.port (Access core) ≡ old.port (Access core)
+    → own_items new.history core ≡ own_items old.history core → committed new core ≡ committed old core
 committed-same old new core e f = ap (λ s. taken_of s (own_items new.history core)) e ∙ ap (λ es. taken_of (old.port (Access core)) es) f
 
 -- Any call on a port, by what it does to the history and the load.
-call-leaves : (p : Port) (old new : MemoryView) → Keeps old new → LeavesPorts p old new → ((more : List Item) × (new.history ≡ old.history ++ more)) → ((core : ℕ) → core ≢ core_of p → own_items new.history core ≡ own_items old.history core) → (IsTrue old.tells_load → energy (core_of p) new ≤ energy (core_of p) old) →
+call-leaves : (p : Port) (old new : MemoryView) → Keeps old new → LeavesPorts p old new
+    → ((more : List Item) × (new.history ≡ old.history ++ more))
+    → ((core : ℕ) → core ≢ core_of p → own_items new.history core ≡ own_items old.history core)
+    → (IsTrue old.tells_load → potential (core_of p) new ≤ potential (core_of p) old) →
     LeavesOthers (core_of p) old new
 call-leaves p old new kept others history own load = record {
   kept = kept;
@@ -145,16 +161,19 @@ same-history : (old new : MemoryView) → new.history ≡ old.history → (more 
 same-history old new e = ([], e ∙ sym (append-nil old.history))
 
 pub asks-leaves : (p : Port) (r : Request) (old new : MemoryView) → Asks p r old new → LeavesOthers (core_of p) old new
-asks-leaves p r old new h = call-leaves p old new h.kept h.others (same-history old new h.history) (λ k ne. ap (λ t. own_items t k) h.history) (asks-load p r old new h)
+asks-leaves p r old new h = call-leaves p old new h.kept h.others (same-history old new h.history)
+    (λ k ne. ap (λ t. own_items t k) h.history) (asks-load p r old new h)
 
-own-served : (p : Port) (r : Request) (old new : MemoryView) → Serves p r old new → (core : ℕ) → core ≢ core_of p → own_items new.history core ≡ own_items old.history core
+own-served : (p : Port) (r : Request) (old new : MemoryView) → Serves p r old new → (core : ℕ) → core ≢ core_of p
+    → own_items new.history core ≡ own_items old.history core
 own-served p r old new h core ne =
     elim h.outcome as (λ _. own_items new.history core ≡ own_items old.history core) [
       | inl o ↦ ap (λ t. own_items t core) o.1
       | inr o ↦ ap (λ t. own_items t core) o.2 ∙ own-answered_other old.history p r o.0 core ne
     ]
 
-served-history : (p : Port) (r : Request) (old new : MemoryView) → Serves p r old new → (more : List Item) × (new.history ≡ old.history ++ more)
+served-history : (p : Port) (r : Request) (old new : MemoryView) → Serves p r old new → (more : List Item)
+    × (new.history ≡ old.history ++ more)
 served-history p r old new h =
     elim h.outcome as (λ _. (more : List Item) × (new.history ≡ old.history ++ more)) [
       | inl o ↦ same-history old new o.1
@@ -162,10 +181,13 @@ served-history p r old new h =
     ]
 
 pub serves-leaves : (p : Port) (r : Request) (old new : MemoryView) → Serves p r old new → LeavesOthers (core_of p) old new
-serves-leaves p r old new h = call-leaves p old new h.kept h.others (served-history p r old new h) (own-served p r old new h) (λ t. same-load p old new h.kept h.others h.asks (h.load t))
+serves-leaves p r old new h = call-leaves p old new h.kept h.others (served-history p r old new h) (own-served p r old new h)
+    (λ t. same-load p old new h.kept h.others h.asks (h.load t))
 
 leaves-leaves : (p : Port) (state : PortState) (old new : MemoryView) → Leaves p state old new → LeavesOthers (core_of p) old new
-leaves-leaves p state old new h = call-leaves p old new h.kept h.others (same-history old new h.history) (λ k ne. ap (λ t. own_items t k) h.history) (λ t. same-load p old new h.kept h.others h.asks (h.load t))
+leaves-leaves p state old new h =
+    call-leaves p old new h.kept h.others (same-history old new h.history) (λ k ne. ap (λ t. own_items t k) h.history)
+    (λ t. same-load p old new h.kept h.others h.asks (h.load t))
 
 same-leaves : (core : ℕ) (old new : MemoryView) → Same old new → LeavesOthers core old new
 same-leaves core old new h = record {
@@ -175,10 +197,12 @@ same-leaves core old new h = record {
   asks = λ q ne. h.asks q;
   taken = λ k ne. committed-same old new k (h.ports (Access k)) (ap (λ t. own_items t k) h.history);
   distances = λ t q ne w. let e = h.distances q in omega (arith, e);
-  load = λ t. no_steps _ _ (energy-same core 0 old new h.kept (h.asks (Fetch core)) (h.asks (Access core)) (let e = h.load in omega (arith, e)));
+  load = λ t. rw add-zero at (potential-same core 0 old new h.kept (h.asks (Fetch core)) (h.asks (Access core))
+      (let e = h.load in omega (arith, e)));
 }
 
-answers-port : (p : Port) (r : Request) (word : ℕ) (bus : Option Transaction) (old new : MemoryView) → Answers p r word bus old new → (q : Port) → Evolves (old.port q) (new.port q)
+answers-port : (p : Port) (r : Request) (word : ℕ) (bus : Option Transaction) (old new : MemoryView) → Answers p r word bus old new
+    → (q : Port) → Evolves (old.port q) (new.port q)
 answers-port p r word bus old new a q =
     elim (cases_port p q) as (λ _. Evolves (old.port q) (new.port q)) [
       | inl e ↦ inr (r, (word, (ap old.port e ∙ a.was, ap new.port e ∙ a.is)))
@@ -193,7 +217,8 @@ moves-port old new h q =
     ]
 
 -- An entry that was just made is not taken yet.
-answered-committed : (core : ℕ) (r : Request) (word : ℕ) (bus : Option Transaction) (old new : MemoryView) → Answers (Access core) r word bus old new → committed new core ≡ committed old core
+answered-committed : (core : ℕ) (r : Request) (word : ℕ) (bus : Option Transaction) (old new : MemoryView)
+    → Answers (Access core) r word bus old new → committed new core ≡ committed old core
 answered-committed core r word bus old new a =
     ap (λ s. taken_of s (own_items new.history core)) a.is
     ∙ (ap but_last (ap (λ t. own_items t core) a.history ∙ own-answered_same (old.history ++ bus_items bus) core r word)
@@ -201,7 +226,8 @@ answered-committed core r word bus old new a =
     ∙ (own-bus_after old.history bus core
     ∙ sym (ap (λ s. taken_of s (own_items old.history core)) a.was))))
 
-answers-committed : (p : Port) (r : Request) (word : ℕ) (bus : Option Transaction) (old new : MemoryView) → Answers p r word bus old new → (core : ℕ) → committed new core ≡ committed old core
+answers-committed : (p : Port) (r : Request) (word : ℕ) (bus : Option Transaction) (old new : MemoryView) → Answers p r word bus old new
+    → (core : ℕ) → committed new core ≡ committed old core
 answers-committed (Fetch c) r word bus old new a core =
     committed-same old new core (a.others (Access core) (access_not_fetch c core))
     (ap (λ t. own_items t core) (a.history ∙ append-nil (old.history ++ bus_items bus)) ∙ own-bus_after old.history bus core)
@@ -210,13 +236,15 @@ answers-committed (Access c) r word bus old new a core =
       | inl e ↦ let P : ℕ → Type 0 = λ n. committed new n ≡ committed old n in subst P (sym e) (answered-committed c r word bus old new a)
       | inr ne ↦
           committed-same old new core (a.others (Access core) (λ e. ne (ap core_of e)))
-          (ap (λ t. own_items t core) a.history ∙ (own-answered_other (old.history ++ bus_items bus) (Access c) r word core ne ∙ own-bus_after old.history bus core))
+          (ap (λ t. own_items t core) a.history
+          ∙ (own-answered_other (old.history ++ bus_items bus) (Access c) r word core ne ∙ own-bus_after old.history bus core))
     ]
 
 moves-committed : (old new : MemoryView) → Moves old new → (core : ℕ) → committed new core ≡ committed old core
 moves-committed old new h core =
     elim h.outcome as (λ _. committed new core ≡ committed old core) [
-      | inl o ↦ committed-same old new core (o.1.ports (Access core)) (ap (λ t. own_items t core) o.1.history ∙ own-bus_after old.history o.0 core)
+      | inl o ↦ committed-same old new core (o.1.ports (Access core))
+          (ap (λ t. own_items t core) o.1.history ∙ own-bus_after old.history o.0 core)
       | inr o ↦ answers-committed o.0 o.1.0 o.1.1.0 o.1.1.1.0 old new o.1.1.1.1 core
     ]
 
@@ -224,15 +252,16 @@ moves-history : (old new : MemoryView) → Moves old new → (more : List Item) 
 moves-history old new h =
     elim h.outcome as (λ _. (more : List Item) × (new.history ≡ old.history ++ more)) [
       | inl o ↦ (bus_items o.0, o.1.history)
-      | inr o ↦ (bus_items o.1.1.1.0 ++ items_of o.0 o.1.0 o.1.1.0, o.1.1.1.1.history ∙ append_assoc old.history (bus_items o.1.1.1.0) (items_of o.0 o.1.0 o.1.1.0))
+      | inr o ↦ (
+        bus_items o.1.1.1.0 ++ items_of o.0 o.1.0 o.1.1.0,
+        o.1.1.1.1.history
+            ∙ append_assoc old.history (bus_items o.1.1.1.0) (items_of o.0 o.1.0 o.1.1.0),
+      )
     ]
-
-less : (a b : ℕ) → a + 1 ≤ b → a ≤ b
-less a b h = omega arith
 
 -- A step that moves something is paid by the core for which it is made.
 moves-paid : (core : ℕ) (old new : MemoryView) → Moves old new → Paid core 1 old new
-moves-paid core old new h t = energy-same core 1 old new h.kept (h.asks (Fetch core)) (h.asks (Access core)) (h.load t)
+moves-paid core old new h t = potential-same core 1 old new h.kept (h.asks (Fetch core)) (h.asks (Access core)) (h.load t)
 
 moves-leaves : (core : ℕ) (old new : MemoryView) → Moves old new → LeavesOthers core old new
 moves-leaves core old new h = record {
@@ -241,8 +270,8 @@ moves-leaves core old new h = record {
   ports = λ q ne. moves-port old new h q;
   asks = λ q ne. h.asks q;
   taken = λ k ne. moves-committed old new h k;
-  distances = λ t q ne w. less _ _ (h.distances t q w);
-  load = λ t. less _ _ (moves-paid core old new h t);
+  distances = λ t q ne w. le_of_suc-le (rw add-one at (h.distances t q w));
+  load = λ t. le_of_suc-le (rw add-one at (moves-paid core old new h t));
 }
 
 pub steps-leaves : (result : Moved) (core : ℕ) (old new : MemoryView) → Steps result old new → LeavesOthers core old new
@@ -253,7 +282,8 @@ pub takes-leaves : (result : Option ℕ) (p : Port) (old new : MemoryView) → T
 takes-leaves None p old new h = same-leaves (core_of p) old new h.1
 takes-leaves (Some word) p old new h = leaves-leaves p Free old new h.1
 
-pub withdraws-leaves : (result : Withdrawal) (p : Port) (old new : MemoryView) → Withdraws result p old new → LeavesOthers (core_of p) old new
+pub withdraws-leaves : (result : Withdrawal) (p : Port) (old new : MemoryView) → Withdraws result p old new
+    → LeavesOthers (core_of p) old new
 withdraws-leaves withdrawal.Withdrawn p old new h = leaves-leaves p Closed old new h.1
 withdraws-leaves (withdrawal.Answered word) p old new h = leaves-leaves p Closed old new h.1
 
@@ -269,36 +299,43 @@ paid_in_turn : (a b d j k : ℕ) → b + j ≤ a → d + k ≤ b → d + (j + k)
 paid_in_turn a b d j k h i = omega arith
 
 pub paid-twice : (core j k : ℕ) (a b d : MemoryView) → Paid core j a b → Paid core k b d → Keeps a b → Paid core (j + k) a d
-paid-twice core j k a b d h i kept t = paid_in_turn (energy core a) (energy core b) (energy core d) j k (h t) (i (true_along kept.tells_load t))
+paid-twice core j k a b d h i kept t =
+    paid_in_turn (potential core a) (potential core b) (potential core d) j k (h t)
+    (i (subst⁻¹ (λ (told : Bool). IsTrue told) kept.tells_load t))
 
 -- What a core's side sees of each call.
 
 side-kept : (core : ℕ) (old new : MemoryView) → Keeps old new → KeepsSide (side_of old core) (side_of new core)
 side-kept core old new k = record { image = k.image; cores = k.cores; tells_distances = k.tells_distances; bound = k.bound }
 
--- The patience of a port that is as it was falls with its distance.
-patience_less : (a b : PortState) (d e : ℕ) → b ≡ a → (IsWaiting a → e ≤ d) → patience_of b e ≤ patience_of a d
-patience_less Free b d e eq h = rw eq (omega arith)
-patience_less (Asked r) b d e eq h = rw eq (omega arith)
-patience_less (Waiting r) b d e eq h = rw eq (h tt)
-patience_less (Answered r word) b d e eq h = rw eq (omega arith)
-patience_less Closed b d e eq h = rw eq (omega arith)
+-- The remaining wait of a port that is as it was falls with its distance.
+remaining_wait_less : (a b : PortState) (d e : ℕ) → b ≡ a → (IsWaiting a → e ≤ d) → remaining_wait_of b e ≤ remaining_wait_of a d
+remaining_wait_less Free b d e eq h = rw eq (omega arith)
+remaining_wait_less (Asked r) b d e eq h = rw eq (omega arith)
+remaining_wait_less (Waiting r) b d e eq h = rw eq (h tt)
+remaining_wait_less (Answered r word) b d e eq h = rw eq (omega arith)
+remaining_wait_less Closed b d e eq h = rw eq (omega arith)
 
 side-other : (p : Port) (old new : MemoryView) → LeavesPorts p old new → LeavesPort p (side_of old (core_of p)) (side_of new (core_of p))
 side-other p old new h = record {
   port = λ q ne c. inl (h.ports q ne);
   asks = λ q ne c. h.asks q ne;
-  patience = λ t q ne c. patience_less (old.port q) (new.port q) (old.distance q) (new.distance q) (h.ports q ne) (λ w. h.distances t q ne w);
+  remaining_wait = λ t q ne c. remaining_wait_less (old.port q) (new.port q) (old.distance q) (new.distance q) (h.ports q ne)
+      (λ w. h.distances t q ne w);
 }
 
 -- A call on a port that makes no entry takes none, where its access port tells of no more than before.
-taken-quiet : (p : Port) (old new : MemoryView) → taken_of (new.port p) (own_items old.history (core_of p)) ≡ taken_of (old.port p) (own_items old.history (core_of p)) → LeavesPorts p old new → new.history ≡ old.history → committed new (core_of p) ≡ committed old (core_of p)
+taken-quiet : (p : Port) (old new : MemoryView)
+    → taken_of (new.port p) (own_items old.history (core_of p)) ≡ taken_of (old.port p) (own_items old.history (core_of p))
+    → LeavesPorts p old new → new.history ≡ old.history → committed new (core_of p) ≡ committed old (core_of p)
 taken-quiet (Fetch c) old new t h e = committed-same old new c (h.ports (Access c) (access_not_fetch c c)) (ap (λ t. own_items t c) e)
 taken-quiet (Access c) old new t h e = ap (λ x. taken_of (new.port (Access c)) (own_items x c)) e ∙ t
 
 -- A request that is answered as it is served has its entry, and its core hasn't taken that.
-taken-answered : (p : Port) (r : Request) (word : ℕ) (old new : MemoryView) → old.port p ≡ Asked r → new.port p ≡ Answered r word → LeavesPorts p old new → new.history ≡ old.history ++ items_of p r word → committed new (core_of p) ≡ committed old (core_of p)
-taken-answered (Fetch c) r word old new was is h e = committed-same old new c (h.ports (Access c) (access_not_fetch c c)) (ap (λ t. own_items t c) (e ∙ append-nil old.history))
+taken-answered : (p : Port) (r : Request) (word : ℕ) (old new : MemoryView) → old.port p ≡ Asked r → new.port p ≡ Answered r word
+    → LeavesPorts p old new → new.history ≡ old.history ++ items_of p r word → committed new (core_of p) ≡ committed old (core_of p)
+taken-answered (Fetch c) r word old new was is h e =
+    committed-same old new c (h.ports (Access c) (access_not_fetch c c)) (ap (λ t. own_items t c) (e ∙ append-nil old.history))
 taken-answered (Access c) r word old new was is h e =
     ap (λ s. taken_of s (own_items new.history c)) is
     ∙ (ap but_last (ap (λ t. own_items t c) e ∙ own-answered_same old.history c r word)
@@ -308,52 +345,56 @@ taken-answered (Access c) r word old new was is h e =
 states-taken : {a b x y : PortState} (own : List Entry) → a ≡ x → b ≡ y → taken_of x own ≡ taken_of y own → taken_of a own ≡ taken_of b own
 states-taken own e f h = ap (λ s. taken_of s own) e ∙ (h ∙ sym (ap (λ s. taken_of s own) f))
 
-near-bound : (p : Port) (r : Request) (old new : MemoryView) → IsLawful new → Keeps old new → IsTrue old.tells_distances → new.port p ≡ Waiting r → patience_of (new.port p) (new.distance p) ≤ old.bound
+near-bound : (p : Port) (r : Request) (old new : MemoryView) → IsLawful new → Keeps old new → IsTrue old.tells_distances
+    → new.port p ≡ Waiting r → remaining_wait_of (new.port p) (new.distance p) ≤ old.bound
 near-bound p r old new lawful kept t is =
-    let P : PortState → Type 0 = λ s. patience_of s (new.distance p) ≤ old.bound in
+    let P : PortState → Type 0 = λ s. remaining_wait_of s (new.distance p) ≤ old.bound in
     let Q : PortState → Type 0 = λ s. IsWaiting s in
-    let close = (lawful.near (true_along kept.tells_distances t) p (subst Q (sym is) tt)).1 in
+    let close = (lawful.near (subst⁻¹ (λ (told : Bool). IsTrue told) kept.tells_distances t) p (subst Q (sym is) tt)).1 in
     let e = kept.bound in
     subst P (sym is) (omega (arith, close, e))
 
-pub serves-side : (p : Port) (r : Request) (old new : MemoryView) → IsLawful new → old.port p ≡ Asked r → Serves p r old new → SideServes p r (side_of old (core_of p)) (side_of new (core_of p))
+pub serves-side : (p : Port) (r : Request) (old new : MemoryView) → IsLawful new → old.port p ≡ Asked r → Serves p r old new
+    → SideServes p r (side_of old (core_of p)) (side_of new (core_of p))
 serves-side p r old new lawful was h =
     elim h.outcome as (λ _. SideServes p r (side_of old (core_of p)) (side_of new (core_of p))) [
       | inl o ↦ record {
         kept = side-kept (core_of p) old new h.kept;
         other = side-other p old new h.others;
-        port = ap mark o.0;
+        port = ap port_phase o.0;
         asks = h.asks;
         taken = taken-quiet p old new (states-taken (own_items old.history (core_of p)) o.0 was refl) h.others o.1;
-        patience = λ t. near-bound p r old new lawful h.kept t o.0;
+        remaining_wait = λ t. near-bound p r old new lawful h.kept t o.0;
       }
       | inr o ↦ record {
         kept = side-kept (core_of p) old new h.kept;
         other = side-other p old new h.others;
-        port = ap mark o.1;
+        port = ap port_phase o.1;
         asks = h.asks;
         taken = taken-answered p r o.0 old new was o.1 h.others o.2;
-        patience = λ t. let P : PortState → Type 0 = λ s. patience_of s (new.distance p) ≤ old.bound in subst P (sym o.1) (omega arith);
+        remaining_wait = λ t. let P : PortState → Type 0 =
+            λ s. remaining_wait_of s (new.distance p) ≤ old.bound in subst P (sym o.1) (omega arith);
       }
     ]
 
--- A step lowers each patience by one.
-patience-stepped : (a b : PortState) (d e : ℕ) → Evolves a b → (IsWaiting b → e + 1 ≤ d) → patience_of b e ≤ patience_of a d - 1
-patience-stepped a Free d e m h = omega arith
-patience-stepped a (Asked r) d e m h = omega arith
-patience-stepped a (Waiting r) d e (inl eq) h =
-    let P : PortState → Type 0 = λ s. e ≤ patience_of s d - 1 in subst P eq (let k = h tt in omega (arith, k))
-patience-stepped a (Waiting r) d e (inr s) h = let eq = s.1.1.1 in cc
-patience-stepped a (Answered r word) d e m h = omega arith
-patience-stepped a Closed d e m h = omega arith
+-- A step lowers each remaining wait by one.
+remaining_wait-stepped : (a b : PortState) (d e : ℕ) → Evolves a b → (IsWaiting b → e + 1 ≤ d)
+    → remaining_wait_of b e ≤ remaining_wait_of a d - 1
+remaining_wait-stepped a Free d e m h = omega arith
+remaining_wait-stepped a (Asked r) d e m h = omega arith
+remaining_wait-stepped a (Waiting r) d e (inl eq) h =
+    let P : PortState → Type 0 = λ s. e ≤ remaining_wait_of s d - 1 in subst P eq (let k = h tt in omega (arith, k))
+remaining_wait-stepped a (Waiting r) d e (inr s) h = let eq = s.1.1.1 in cc
+remaining_wait-stepped a (Answered r word) d e m h = omega arith
+remaining_wait-stepped a Closed d e m h = omega arith
 
--- What doesn't wait has no patience.
-patience-rests : (s : PortState) (e : ℕ) → (IsWaiting s → ⊥) → patience_of s e ≡ 0
-patience-rests Free e h = refl
-patience-rests (Asked r) e h = refl
-patience-rests (Waiting r) e h = absurd (h tt)
-patience-rests (Answered r word) e h = refl
-patience-rests Closed e h = refl
+-- What doesn't wait has no remaining wait.
+remaining_wait-rests : (s : PortState) (e : ℕ) → (IsWaiting s → ⊥) → remaining_wait_of s e ≡ 0
+remaining_wait-rests Free e h = refl
+remaining_wait-rests (Asked r) e h = refl
+remaining_wait-rests (Waiting r) e h = absurd (h tt)
+remaining_wait-rests (Answered r word) e h = refl
+remaining_wait-rests Closed e h = refl
 
 idle-rests : (old new : MemoryView) → IsLawful old → old.is_busy ≡ false → Same old new → (q : Port) → IsWaiting (new.port q) → ⊥
 idle-rests old new lawful e same q w = let b = lawful.waiting q (waiting_along (same.ports q) w) in cc
@@ -366,7 +407,8 @@ same-stays core old new h = record {
   taken = committed-same old new core (h.ports (Access core)) (ap (λ t. own_items t core) h.history);
 }
 
-pub steps-side : (result : Moved) (core : ℕ) (old new : MemoryView) → IsLawful old → Steps result old new → SideSteps result core (side_of old core) (side_of new core)
+pub steps-side : (result : Moved) (core : ℕ) (old new : MemoryView) → IsLawful old → Steps result old new
+    → SideSteps result core (side_of old core) (side_of new core)
 steps-side moved.Moved core old new lawful h = record {
   stays = record {
     kept = side-kept core old new h.kept;
@@ -375,10 +417,11 @@ steps-side moved.Moved core old new lawful h = record {
     taken = moves-committed old new h core;
   };
   idle = λ e q c w. cc;
-  patience = λ t q c. patience-stepped (old.port q) (new.port q) (old.distance q) (new.distance q) (moves-port old new h q) (λ w. h.distances t q w);
+  remaining_wait = λ t q c. remaining_wait-stepped (old.port q) (new.port q) (old.distance q) (new.distance q) (moves-port old new h q)
+      (λ w. h.distances t q w);
 }
 steps-side moved.Idle core old new lawful h = record {
   stays = same-stays core old new h.1;
   idle = λ e q c w. idle-rests old new lawful h.0 h.1 q w;
-  patience = λ t q c. rw (patience-rests (new.port q) (new.distance q) (idle-rests old new lawful h.0 h.1 q)) (omega arith);
+  remaining_wait = λ t q c. rw (remaining_wait-rests (new.port q) (new.distance q) (idle-rests old new lawful h.0 h.1 q)) (omega arith);
 }

@@ -11,17 +11,17 @@ use Rattle.mem_port.specs.declared.port.PortState.TheVariants.{Free, Asked, Wait
 use Rattle.mem_port.specs.declared.cell.Cell.{Cell}
 use Rattle.mem_port.specs.Memory.{MemoryView}
 
--- Where the cell of a port stands.
-abbrev pub place_of : Port → ℕ
-place_of (Fetch core) = 2 * core
-place_of (Access core) = 2 * core + 1
+-- The index of a port's cell.
+abbrev pub index_of : Port → ℕ
+index_of (Fetch core) = 2 * core
+index_of (Access core) = 2 * core + 1
 
 -- What stands for the cell of a core that isn't there.
 abbrev pub no_cell : Cell
 no_cell = record { state = Free; asks = 0 }
 
 abbrev pub cell_at : List Cell → Port → Cell
-cell_at cells port = get_or cells (place_of port) no_cell
+cell_at cells port = get_or cells (index_of port) no_cell
 
 -- No step moves anything, and no request waits.
 abbrev pub flat : ImageValue → ℕ → List Item → List Cell → MemoryView

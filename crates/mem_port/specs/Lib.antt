@@ -3,7 +3,7 @@ pub mod Ports
 pub mod Memory
 pub mod Calls
 pub mod Engine
-pub mod Pace
+pub mod ServiceHistory
 pub mod Side
 pub mod Props
 pub mod Flat

@@ -14,7 +14,7 @@ use Rattle.access_log.specs.Requests.{asked}
 abbrev pub on_code : ImageValue → ℕ → Bool
 on_code image addr = (addr % 4 == 0) && nat_lt addr (4 * length image.code)
 
--- Whether an access may be asked of memory: at its place there is no stop.
+-- Whether an access may be asked of memory: at its address there is no stop.
 abbrev pub IsProperAccess : ImageValue → Kind → ℕ → Type 0
 IsProperAccess image kind addr = MayAccess (4 * length image.code) (memory_bytes image) kind addr
 

@@ -34,13 +34,17 @@ IsSupplier-prop : (letter : ℕ → ℕ → Letter) (master line : ℕ) (supplie
 IsSupplier-prop letter master line None = hlevel props
 IsSupplier-prop letter master line (Some cache) = hlevel props
 
-IsAllowed-prop : (caches : Caches) (cores code_lines : ℕ) (letters : LettersValue) (bus : Transaction) → IsProp (IsAllowed caches cores code_lines letters bus)
+IsAllowed-prop : (caches : Caches) (cores code_lines : ℕ) (letters : LettersValue) (bus : Transaction)
+    → IsProp (IsAllowed caches cores code_lines letters bus)
 IsAllowed-prop caches cores code_lines letters bus = hlevel (props, IsSupplier-prop)
 
-FollowsFrom-prop : (caches : Caches) (cores code_lines : ℕ) (letters : LettersValue) (items : List Item) → IsProp (FollowsFrom caches cores code_lines letters items)
+FollowsFrom-prop : (caches : Caches) (cores code_lines : ℕ) (letters : LettersValue) (items : List Item)
+    → IsProp (FollowsFrom caches cores code_lines letters items)
 FollowsFrom-prop caches cores code_lines letters [] = hlevel props
-FollowsFrom-prop caches cores code_lines letters (Done entry ∷ items) = hlevel (props, FollowsFrom-prop caches cores code_lines (after_entry letters entry) items)
-FollowsFrom-prop caches cores code_lines letters (Bus bus ∷ items) = hlevel (props, IsAllowed-prop, FollowsFrom-prop caches cores code_lines (after_transaction caches letters bus) items)
+FollowsFrom-prop caches cores code_lines letters (Done entry ∷ items) =
+    hlevel (props, FollowsFrom-prop caches cores code_lines (after_entry letters entry) items)
+FollowsFrom-prop caches cores code_lines letters (Bus bus ∷ items) =
+    hlevel (props, IsAllowed-prop, FollowsFrom-prop caches cores code_lines (after_transaction caches letters bus) items)
 
 Follows-prop : (caches : Option Caches) (cores code_lines : ℕ) (items : List Item) → IsProp (Follows caches cores code_lines items)
 Follows-prop None cores code_lines items = hlevel props

@@ -16,21 +16,21 @@ use Rattle.mem_port.specs.Ports.{core_of, IsWaiting, IsUnanswered, entries_of}
 use Rattle.mem_port.specs.Memory.{MemoryView, IsLawful, Keeps, committed, steps_of_request}
 
 -- What stays so of a port while other cores go on: a request that was served is served, whether or not it has its answer.
-pub data Mark : Type 0 where
-  Unasked : Mark
-  Sent : Request → Mark
-  Served : Request → Mark
-  Shut : Mark
+pub data PortPhase : Type 0 where
+  Unasked : PortPhase
+  Sent : Request → PortPhase
+  Served : Request → PortPhase
+  Shut : PortPhase
 
-abbrev pub mark : PortState → Mark
-mark Free = Unasked
-mark (Asked r) = Sent r
-mark (Waiting r) = Served r
-mark (Answered r word) = Served r
-mark Closed = Shut
+abbrev pub port_phase : PortState → PortPhase
+port_phase Free = Unasked
+port_phase (Asked r) = Sent r
+port_phase (Waiting r) = Served r
+port_phase (Answered r word) = Served r
+port_phase Closed = Shut
 
 -- There is a request, this one.
-abbrev pub Holds : Mark → Request → Type 0
+abbrev pub Holds : PortPhase → Request → Type 0
 Holds Unasked r = ⊥
 Holds (Sent s) r = s ≡ r
 Holds (Served s) r = s ≡ r
@@ -52,7 +52,7 @@ pub record SideView : Type 0 where
   -- Whether it is told how many own steps a request that it served is away from its answer at most; how many that are,
   -- and a bound on them.
   pub tells_distances : Bool
-  pub patience : Port → ℕ
+  pub remaining_wait : Port → ℕ
   pub bound : ℕ
 
 -- What no call changes.
@@ -66,7 +66,7 @@ pub record KeepsSide (old new : SideView) : Type 0 where
 pub record LeavesPort (p : Port) (old new : SideView) : Type 0 where
   pub port : (q : Port) → q ≢ p → core_of q ≡ core_of p → Evolves (old.port q) (new.port q)
   pub asks : (q : Port) → q ≢ p → core_of q ≡ core_of p → new.asks_left q ≡ old.asks_left q
-  pub patience : IsTrue old.tells_distances → (q : Port) → q ≢ p → core_of q ≡ core_of p → new.patience q ≤ old.patience q
+  pub remaining_wait : IsTrue old.tells_distances → (q : Port) → q ≢ p → core_of q ≡ core_of p → new.remaining_wait q ≤ old.remaining_wait q
 
 -- A request is put on a port.
 pub record SideAsks (p : Port) (r : Request) (old new : SideView) : Type 0 where
@@ -80,10 +80,10 @@ pub record SideAsks (p : Port) (r : Request) (old new : SideView) : Type 0 where
 pub record SideServes (p : Port) (r : Request) (old new : SideView) : Type 0 where
   pub kept : KeepsSide old new
   pub other : LeavesPort p old new
-  pub port : mark (new.port p) ≡ Served r
+  pub port : port_phase (new.port p) ≡ Served r
   pub asks : new.asks_left p ≡ old.asks_left p
   pub taken : new.taken ≡ old.taken
-  pub patience : IsTrue old.tells_distances → new.patience p ≤ old.bound
+  pub remaining_wait : IsTrue old.tells_distances → new.remaining_wait p ≤ old.bound
 
 -- The ports of a core, what it may ask there and what it has taken are as they were, but for answers that came.
 pub record SideStays (core : ℕ) (old new : SideView) : Type 0 where
@@ -92,11 +92,11 @@ pub record SideStays (core : ℕ) (old new : SideView) : Type 0 where
   pub asks : (q : Port) → core_of q ≡ core → new.asks_left q ≡ old.asks_left q
   pub taken : new.taken ≡ old.taken
 
--- A step: each patience falls by one, to 0 at least, and where there was nothing to be moved nothing waits.
+-- A step: each remaining wait falls by one, to 0 at least, and where there was nothing to be moved nothing waits.
 pub record SideSteps (result : Moved) (core : ℕ) (old new : SideView) : Type 0 where
   pub stays : SideStays core old new
   pub idle : result ≡ moved.Idle → (q : Port) → core_of q ≡ core → IsWaiting (new.port q) → ⊥
-  pub patience : IsTrue old.tells_distances → (q : Port) → core_of q ≡ core → new.patience q ≤ old.patience q - 1
+  pub remaining_wait : IsTrue old.tells_distances → (q : Port) → core_of q ≡ core → new.remaining_wait q ≤ old.remaining_wait q - 1
 
 -- The answer to a fetch is the word of code at its address.
 abbrev pub IsAnswer : ImageValue → Port → Request → ℕ → Type 0
@@ -115,8 +115,8 @@ pub record SideLeaves (p : Port) (state : PortState) (more : List Entry) (old ne
 pub record SideWaits (p : Port) (r : Request) (old new : SideView) : Type 0 where
   pub stays : SideStays (core_of p) old new
   pub port : new.port p ≡ Waiting r
-  pub some_left : IsTrue old.tells_distances → 1 ≤ old.patience p
-  pub patience : IsTrue old.tells_distances → (q : Port) → core_of q ≡ core_of p → new.patience q ≤ old.patience q
+  pub some_left : IsTrue old.tells_distances → 1 ≤ old.remaining_wait p
+  pub remaining_wait : IsTrue old.tells_distances → (q : Port) → core_of q ≡ core_of p → new.remaining_wait q ≤ old.remaining_wait q
 
 -- An answer is taken, or the request waits.
 abbrev pub SideTakes : Option ℕ → Port → Request → SideView → SideView → Type 0
@@ -131,8 +131,8 @@ SideWithdraws (withdrawal.Answered word) p r old new =
     SideLeaves p Closed (entries_of p r word) old new × Evolves (old.port p) (Answered r word)
 
 -- How many steps can be made at most, if this core alone asks.
-abbrev pub energy : ℕ → MemoryView → ℕ
-energy core m = m.load + steps_of_request m * (m.asks_left (Fetch core) + m.asks_left (Access core))
+abbrev pub potential : ℕ → MemoryView → ℕ
+potential core m = m.load + steps_of_request m * (m.asks_left (Fetch core) + m.asks_left (Access core))
 
 -- What calls for a core leave of a memory and of its other cores.
 pub record LeavesOthers (core : ℕ) (old new : MemoryView) : Type 0 where
@@ -142,11 +142,11 @@ pub record LeavesOthers (core : ℕ) (old new : MemoryView) : Type 0 where
   pub asks : (q : Port) → core_of q ≢ core → new.asks_left q ≡ old.asks_left q
   pub taken : (other : ℕ) → other ≢ core → committed new other ≡ committed old other
   pub distances : IsTrue old.tells_distances → (q : Port) → core_of q ≢ core → IsWaiting (new.port q) → new.distance q ≤ old.distance q
-  pub load : IsTrue old.tells_load → energy core new ≤ energy core old
+  pub load : IsTrue old.tells_load → potential core new ≤ potential core old
 
 -- So many steps that moved something were made for a core, where the load is told: they are paid by what it asked.
 abbrev pub Paid : ℕ → ℕ → MemoryView → MemoryView → Type 0
-Paid core steps old new = IsTrue old.tells_load → energy core new + steps ≤ energy core old
+Paid core steps old new = IsTrue old.tells_load → potential core new + steps ≤ potential core old
 
 -- How many steps moved something: one or none.
 abbrev pub steps_in : Moved → ℕ
@@ -154,12 +154,12 @@ steps_in moved.Moved = 1
 steps_in moved.Idle = 0
 
 -- How many own steps a request on a port is away from its answer at most: none, where it doesn't wait.
-abbrev pub patience_of : PortState → ℕ → ℕ
-patience_of Free distance = 0
-patience_of (Asked r) distance = 0
-patience_of (Waiting r) distance = distance
-patience_of (Answered r word) distance = 0
-patience_of Closed distance = 0
+abbrev pub remaining_wait_of : PortState → ℕ → ℕ
+remaining_wait_of Free distance = 0
+remaining_wait_of (Asked r) distance = 0
+remaining_wait_of (Waiting r) distance = distance
+remaining_wait_of (Answered r word) distance = 0
+remaining_wait_of Closed distance = 0
 
 -- One core's side of a memory that it has for itself.
 abbrev pub side_of : MemoryView → ℕ → SideView
@@ -170,7 +170,7 @@ side_of m core = record {
   asks_left = m.asks_left;
   taken = committed m core;
   tells_distances = m.tells_distances;
-  patience = λ q. patience_of (m.port q) (m.distance q);
+  remaining_wait = λ q. remaining_wait_of (m.port q) (m.distance q);
   bound = m.bound;
 }
 

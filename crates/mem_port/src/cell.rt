@@ -3,7 +3,7 @@ ghost use Rattle.std.specs.Prelude.{◌≡◌, ◌<◌, ◌≤◌, ◌+◌, ◌*
 ghost use Rattle.image_file.specs.Value.{memory_bytes};
 ghost use Rattle.access_log.specs.Items.{after_items};
 ghost use Rattle.mem_port.specs.Ports.{core_of, MayAsk, items_of};
-ghost use Rattle.mem_port.specs.Flat.{place_of, IsFound};
+ghost use Rattle.mem_port.specs.Flat.{index_of, IsFound};
 
 use crate::{Port, PortState};
 use access_log::{History, Item, Request, due, store};
@@ -16,9 +16,9 @@ pub struct Cell {
     pub asks: u32,
 }
 
-/// Where the cell of a port stands: core c has the places 2c, for fetches, and 2c + 1.
-pub fn place(port: Port) -> usize
-    ensures place { result ≡ place_of port }
+/// The index of a port's cell: core c has the indices 2c, for fetches, and 2c + 1.
+pub fn cell_index(port: Port) -> usize
+    ensures index { result ≡ index_of port }
 {
     match port {
         Port::Fetch(core) => 2 * core as usize,

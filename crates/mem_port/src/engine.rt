@@ -1,7 +1,7 @@
 //! The law of an engine that runs one core.
 ghost use Rattle.std.specs.Prelude.{◌≡◌, ◌≤◌, IsSome, true};
 ghost use Rattle.mem_port.specs.Engine.{EngineView, IsSound, FetchFits, ReplyFits, Clocks, Drains};
-ghost use Rattle.mem_port.specs.Pace.{Pace, Paces, PacesDrain, UsesService};
+ghost use Rattle.mem_port.specs.ServiceHistory.{ServiceHistory, AfterClock, AfterDrain, UsesService};
 
 use access_log::Request;
 use mips_isa::{CoreState, Stop};
@@ -22,11 +22,11 @@ pub trait CoreEngine: Drop {
     /// The engine as contracts see it.
     ghost view: { Self → EngineView };
 
-    /// What it tells of its own times, where its wants were met at this pace.
-    ghost timed: { Pace → Self → Type 0 };
+    /// What it tells of its own times, where its wants were met as this history says.
+    ghost timed: { ServiceHistory → Self → Type 0 };
 
     /// It never idles but where a want stays unmet, and fetches no more than it needs.
-    ghost uses: { (pace : Pace) (e : Self) → timed pace e → UsesService pace.service (view e).executed };
+    ghost uses: { (history : ServiceHistory) (e : Self) → timed history e → UsesService history.service (view e).executed };
 
     /// The byte address of the word of code that it waits for, if any.
     fn want_fetch(&self) -> Option<u32>
@@ -45,7 +45,7 @@ pub trait CoreEngine: Drop {
         requires reply_fits { ReplyFits (view self.old).access reply }
         ensures sound { IsSound (view self.new) }
         ensures clocks { Clocks fetched reply result (view self.old) (view self.new) }
-        ensures timed { (p q : Pace) → timed p self.old → Paces fetched reply (view self.old) p q → timed q self.new };
+        ensures timed { (p q : ServiceHistory) → timed p self.old → AfterClock fetched reply (view self.old) p q → timed q self.new };
 
     /// Ends it where its budget ends while an access is wanted, with the answer if the access was
     /// done.
@@ -54,7 +54,7 @@ pub trait CoreEngine: Drop {
         requires live { (view self.old).is_live ≡ true }
         requires wants { IsSome (view self.old).access }
         ensures drains { Drains reply (view self.old) (view self.new) }
-        ensures timed { (p q : Pace) → timed p self.old → PacesDrain reply (view self.old) p q → timed q self.new };
+        ensures timed { (p q : ServiceHistory) → timed p self.old → AfterDrain reply (view self.old) p q → timed q self.new };
 
     /// The number of instructions that it has executed.
     fn executed(&self) -> u32

@@ -19,7 +19,7 @@ mod flat;
 mod memory;
 mod port;
 
-pub use cell::{Cell, place};
+pub use cell::{Cell, cell_index};
 pub use engine::{CoreEngine, Progress};
 pub use flat::FlatMemory;
 pub use memory::MemoryCore;

@@ -2,12 +2,14 @@
 use Rattle.std.proofs.Common.{◌≡◌, ℕ, ◌+◌, ◌*◌, ◌/◌, ◌%◌, ◌^◌, ◌<◌, Bool, true, false, arith, refl}
 use Rattle.std.specs.Prelude.{Some, ◌==◌, ◌||◌}
 use Rattle.mips_isa.specs.declared.Instr.{Instr}
-use Rattle.mips_isa.specs.declared.Instr.TheVariants.{Shift, ShiftBy, Alu, AluImm, Lui, BranchTwo, BranchZero, Jump, JumpReg, JumpLink, Lw, Sw, Cas, Halt}
+use Rattle.mips_isa.specs.declared.Instr.TheVariants.{Shift, ShiftBy, Alu, AluImm, Lui, BranchTwo, BranchZero, Jump, JumpReg, JumpLink, Lw}
+use Rattle.mips_isa.specs.declared.Instr.TheVariants.{Sw, Cas, Halt}
 use Rattle.mips_isa.specs.declared.ShiftOp.TheVariants.{Sll, Srl, Sra}
 use Rattle.mips_isa.specs.declared.AluOp.TheVariants.{Add, Addu, Sub, Subu, And, Or, Xor, Nor, Slt, Sltu}
 use Rattle.mips_isa.specs.declared.ImmOp.TheVariants.{Addi, Addiu, Slti, Sltiu, Andi, Ori, Xori}
 use Rattle.mips_isa.specs.declared.ZeroOp.TheVariants.{Bltz, Bgez, Blez, Bgtz}
-use Rattle.mips_isa.specs.Words.{register_form, immediate_form, jump_form, word_of, IsProper, Spells, shift_function, alu_function, immediate_opcode, zero_opcode, zero_field}
+use Rattle.mips_isa.specs.Words.{register_form, immediate_form, jump_form, word_of, IsProper, Spells, shift_function, alu_function}
+use Rattle.mips_isa.specs.Words.{immediate_opcode, zero_opcode, zero_field}
 use Rattle.mips_isa.specs.Fields.{five_bits, special_of, cas_of, immediate_of, instr_of}
 
 -- The fields of a word, each read from it.
@@ -54,7 +56,8 @@ instr_of-special : (s t d a f : ℕ) → s < 32 → t < 32 → d < 32 → a < 32
     → instr_of (register_form 0 s t d a f) ≡ special_of s t d a f
 unfolding instr_of
 instr_of-special s t d a f fs ft fd fa ff =
-    let h : HasFields (register_form 0 s t d a f) 0 s t d a f (d * 2048 + a * 64 + f) (s * 2097152 + t * 65536 + d * 2048 + a * 64 + f) = register_fields 0 s t d a f fs ft fd fa ff in
+    let h : HasFields (register_form 0 s t d a f) 0 s t d a f (d * 2048 + a * 64 + f) (s * 2097152 + t * 65536 + d * 2048 + a * 64 + f) =
+    register_fields 0 s t d a f fs ft fd fa ff in
     rw (h.opcode, h.rs, h.rt, h.rd, h.sa, h.function) refl
 
 -- A word with opcode 63 is read by its function.
@@ -62,7 +65,8 @@ instr_of-cas : (s t d a f : ℕ) → s < 32 → t < 32 → d < 32 → a < 32 →
     → instr_of (register_form 63 s t d a f) ≡ cas_of s t d a f
 unfolding instr_of
 instr_of-cas s t d a f fs ft fd fa ff =
-    let h : HasFields (register_form 63 s t d a f) 63 s t d a f (d * 2048 + a * 64 + f) (s * 2097152 + t * 65536 + d * 2048 + a * 64 + f) = register_fields 63 s t d a f fs ft fd fa ff in
+    let h : HasFields (register_form 63 s t d a f) 63 s t d a f (d * 2048 + a * 64 + f) (s * 2097152 + t * 65536 + d * 2048 + a * 64 + f) =
+    register_fields 63 s t d a f fs ft fd fa ff in
     rw (h.opcode, h.rs, h.rt, h.rd, h.sa, h.function) refl
 
 -- Whether an opcode has a function or an index.
@@ -74,7 +78,8 @@ instr_of-immediate : (o s t i : ℕ) → is_other o ≡ false → s < 32 → t <
     → instr_of (immediate_form o s t i) ≡ immediate_of o s t i
 unfolding instr_of
 instr_of-immediate o s t i other fs ft fi =
-    let h : HasFields (immediate_form o s t i) o s t (i / 2048) (i / 64 % 32) (i % 64) i (s * 2097152 + t * 65536 + i) = immediate_fields o s t i fs ft fi in
+    let h : HasFields (immediate_form o s t i) o s t (i / 2048) (i / 64 % 32) (i % 64) i (s * 2097152 + t * 65536 + i) =
+    immediate_fields o s t i fs ft fi in
     rw (h.opcode, h.rs, h.rt, h.imm) (grind (arith, other))
 
 -- A word with opcode 2 or 3 has an index.

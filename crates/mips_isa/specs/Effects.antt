@@ -1,8 +1,10 @@
 -- What each instruction reads, computes and writes, where it leads, and where a core stops: the effects of the MIPS32
 -- architecture, Release 1, without its traps; `cas` and `halt` are this machine's own. Words are numbers below 2 ^ 32.
-use Rattle.std.specs.Prelude.{◌≡◌, ℕ, ℤ, pos, ◌-ℤ◌, Bool, not, ◌&&◌, ◌||◌, ◌+◌, ◌-◌, ◌*◌, ◌/◌, ◌%◌, ◌^◌, ◌<◌, ◌≤◌, ◌==◌, IsTrue, nat_lt, nat_le, int_lt, if◌then◌else◌, Option, Some, None, bit_and, bit_or, bit_xor}
+use Rattle.std.specs.Prelude.{◌≡◌, ℕ, ℤ, pos, ◌-ℤ◌, Bool, not, ◌&&◌, ◌||◌, ◌+◌, ◌-◌, ◌*◌, ◌/◌, ◌%◌, ◌^◌, ◌<◌, ◌≤◌, ◌==◌, IsTrue, nat_lt}
+use Rattle.std.specs.Prelude.{nat_le, int_lt, if◌then◌else◌, Option, Some, None, bit_and, bit_or, bit_xor}
 use Rattle.mips_isa.specs.declared.Instr.{Instr}
-use Rattle.mips_isa.specs.declared.Instr.TheVariants.{Shift, ShiftBy, Alu, AluImm, Lui, BranchTwo, BranchZero, Jump, JumpReg, JumpLink, Lw, Sw, Cas, Halt}
+use Rattle.mips_isa.specs.declared.Instr.TheVariants.{Shift, ShiftBy, Alu, AluImm, Lui, BranchTwo, BranchZero, Jump, JumpReg, JumpLink, Lw}
+use Rattle.mips_isa.specs.declared.Instr.TheVariants.{Sw, Cas, Halt}
 use Rattle.mips_isa.specs.declared.ShiftOp.{ShiftOp}
 use Rattle.mips_isa.specs.declared.ShiftOp.TheVariants.{Sll, Srl, Sra}
 use Rattle.mips_isa.specs.declared.AluOp.{AluOp}

@@ -1,6 +1,7 @@
 -- A core that executes instructions one at a time, each with its delay slot: pc is the address of the instruction behind
 -- the one at dpc.
-use Rattle.std.specs.Prelude.{◌≡◌, ℕ, ◌*◌, ◌/◌, ◌==◌, if◌then◌else◌, Option, Some, None, IsSome, List, replicate, length, slice_get, slice_index, slice_set}
+use Rattle.std.specs.Prelude.{◌≡◌, ℕ, ◌*◌, ◌/◌, ◌==◌, if◌then◌else◌, Option, Some, None, IsSome, List, replicate, length, slice_get}
+use Rattle.std.specs.Prelude.{slice_index, slice_set}
 use Rattle.std.specs.Option.{option_and_then}
 use Rattle.std.specs.List.{All}
 use Rattle.mips_isa.specs.declared.Instr.{Instr}
@@ -13,7 +14,8 @@ use Rattle.mips_isa.specs.declared.Next.TheVariants.{Stops, Asks, Goes}
 use Rattle.mips_isa.specs.declared.Stop.TheVariants.{OffCode}
 use Rattle.mips_isa.specs.Fields.{instr_of}
 use Rattle.mips_isa.specs.Kinds.{part, loaded}
-use Rattle.mips_isa.specs.Effects.{sum_of, rs_of, rt_of, expected_by, written_by, kind_of, address_of, result_of, next_pc_of, first_stop, IsProperAddress}
+use Rattle.mips_isa.specs.Effects.{sum_of, rs_of, rt_of, expected_by, written_by, kind_of, address_of, result_of, next_pc_of, first_stop}
+use Rattle.mips_isa.specs.Effects.{IsProperAddress}
 
 -- The state in which a core begins: register 4 has its number, register 5 the count of the cores, all others 0.
 unfoldable pub start : ℕ → ℕ → CoreState

@@ -3,7 +3,8 @@
 -- A field that an instruction does not use is 0.
 use Rattle.std.specs.Prelude.{◌≡◌, ℕ, ◌+◌, ◌*◌, ◌^◌, ◌<◌, if◌then◌else◌}
 use Rattle.mips_isa.specs.declared.Instr.{Instr}
-use Rattle.mips_isa.specs.declared.Instr.TheVariants.{Shift, ShiftBy, Alu, AluImm, Lui, BranchTwo, BranchZero, Jump, JumpReg, JumpLink, Lw, Sw, Cas, Halt}
+use Rattle.mips_isa.specs.declared.Instr.TheVariants.{Shift, ShiftBy, Alu, AluImm, Lui, BranchTwo, BranchZero, Jump, JumpReg, JumpLink, Lw}
+use Rattle.mips_isa.specs.declared.Instr.TheVariants.{Sw, Cas, Halt}
 use Rattle.mips_isa.specs.declared.ShiftOp.{ShiftOp}
 use Rattle.mips_isa.specs.declared.ShiftOp.TheVariants.{Sll, Srl, Sra}
 use Rattle.mips_isa.specs.declared.AluOp.{AluOp}

@@ -64,22 +64,22 @@ impl<M: MemoryCore> MemoryCore for QueuedMemory<M> {
             self.queue.steps_left -= 1;
             return Moved::Moved;
         }
-        let place = self.queue.next_place(choice);
-        let port = self.queue.answer(place);
+        let index = self.queue.next_index(choice);
+        let port = self.queue.answer(index);
         self.memory.serve(port);
         Moved::Moved
     }
 
     fn take(&mut self, port: Port) -> Option<u32> {
-        match self.queue.place_in(port) {
+        match self.queue.index_of(port) {
             Some(_) => None,
             None => self.memory.take(port),
         }
     }
 
     fn withdraw(&mut self, port: Port) -> Withdrawal {
-        if let Some(place) = self.queue.place_in(port) {
-            self.queue.leave(place);
+        if let Some(index) = self.queue.index_of(port) {
+            self.queue.leave(index);
             return self.memory.withdraw(port);
         }
         self.memory.withdraw(port)

@@ -1,6 +1,6 @@
 //! The queue of the ports whose requests wait.
 ghost use Rattle.std.specs.Prelude.{◌≡◌, ◌<◌, ◌≤◌, slice_get, Some, vec_len, vec_capacity, IfOk};
-ghost use Rattle.queued_memory.specs.Queue.{seen, place_in, next_place, empty, joined, left, counted, answered};
+ghost use Rattle.queued_memory.specs.Queue.{seen, index_of, next_index, empty, joined, left, counted, answered};
 
 use mem_port::{NoMemory, Port};
 use std::alloc::Global;
@@ -34,16 +34,16 @@ impl Queue {
         })
     }
 
-    /// Where a port stands, counted from 0.
-    pub fn place_in(&self, port: Port) -> Option<usize>
-        ensures place { result ≡ place_in self.now.waiting.items port }
+    /// The index of a port.
+    pub fn index_of(&self, port: Port) -> Option<usize>
+        ensures index { result ≡ index_of self.now.waiting.items port }
     {
         self.waiting.iter().position(|&other| other == port)
     }
 
-    /// The place that the choice lets be answered next.
-    pub fn next_place(&self, choice: u32) -> usize
-        ensures place { result ≡ next_place choice (seen self.now) }
+    /// The index of the port that the choice lets be answered next.
+    pub fn next_index(&self, choice: u32) -> usize
+        ensures index { result ≡ next_index choice (seen self.now) }
     {
         if choice % 2 == 1 && !self.passed && self.waiting.len() > 1 {
             1
@@ -61,28 +61,28 @@ impl Queue {
         self.waiting.push_reserved(port);
     }
 
-    /// The port at a place leaves without an answer.
-    pub fn leave(&mut self, place: usize)
-        requires within { place < vec_len self.old.waiting }
-        ensures queue { seen self.new ≡ left place (seen self.old) }
+    /// The port at an index leaves without an answer.
+    pub fn leave(&mut self, index: usize)
+        requires within { index < vec_len self.old.waiting }
+        ensures queue { seen self.new ≡ left index (seen self.old) }
         ensures room { vec_capacity self.new.waiting ≡ vec_capacity self.old.waiting }
     {
-        self.waiting.remove(place);
-        if place == 0 {
+        self.waiting.remove(index);
+        if index == 0 {
             self.steps_left = self.latency;
             self.passed = false;
         }
     }
 
-    /// The port at a place leaves for its answer.
-    pub fn answer(&mut self, place: usize) -> Port
-        requires within { place < vec_len self.old.waiting }
-        ensures port { slice_get self.old.waiting.items place ≡ Some result }
-        ensures queue { seen self.new ≡ answered place (seen self.old) }
+    /// The port at an index leaves for its answer.
+    pub fn answer(&mut self, index: usize) -> Port
+        requires within { index < vec_len self.old.waiting }
+        ensures port { slice_get self.old.waiting.items index ≡ Some result }
+        ensures queue { seen self.new ≡ answered index (seen self.old) }
         ensures room { vec_capacity self.new.waiting ≡ vec_capacity self.old.waiting }
     {
         self.steps_left = self.latency;
-        self.passed = place == 1;
-        self.waiting.remove(place)
+        self.passed = index == 1;
+        self.waiting.remove(index)
     }
 }

@@ -21,7 +21,8 @@ use Rattle.replayer.proofs.RightRegisters.{IsMachine, is_machine}
 use Rattle.replayer.proofs.RightLaws.{no_difference_is_right, right_has_no_difference}
 
 -- one with a difference isn't right
-pub different_is_wrong : (report : ReportValue) (difference : Difference) → IsReport report → IsDifference report difference → IsRightReport report → ⊥
+pub different_is_wrong : (report : ReportValue) (difference : Difference) → IsReport report → IsDifference report difference
+    → IsRightReport report → ⊥
 different_is_wrong report difference is (inl h) right =
     let agrees = right_has_no_difference report is right in
     none-some agrees.0 (sym (entry_difference_is_none h) ∙ agrees.1)
@@ -32,20 +33,24 @@ different_is_wrong report difference is (inr h) right =
 
 -- ---- the machine at the start, and when it has made the accesses
 
-pub made_all : (report : ReportValue) (items : List Item) (start machine : FlatMachine) → items ≡ report.items → start ≡ machine_of report → entered_all (entries items) start ≡ Some machine
+pub made_all : (report : ReportValue) (items : List Item) (start machine : FlatMachine) → items ≡ report.items → start ≡ machine_of report
+    → entered_all (entries items) start ≡ Some machine
     → entered_all (entries report.items) (machine_of report) ≡ Some machine
 made_all report items start machine items_are start_is made = rw (items_are, start_is) at made
 
 -- it has the report's code, as many cores, and as much memory
 pub machine_fits : (report : ReportValue) (machine : FlatMachine) → entered_all (entries report.items) (machine_of report) ≡ Some machine
     → IsMachine report.image.code report.setup.cores (length (start_memory report.image)) machine
-machine_fits report machine made = is_machine report.image (start_memory report.image) report.setup.cores (entries report.items) machine made
+machine_fits report machine made =
+    is_machine report.image (start_memory report.image) report.setup.cores (entries report.items) machine made
 
-pub start_fits : (report : ReportValue) → IsMachine report.image.code report.setup.cores (length (start_memory report.image)) (machine_of report)
+pub start_fits : (report : ReportValue)
+    → IsMachine report.image.code report.setup.cores (length (start_memory report.image)) (machine_of report)
 unfolding entered_all
 start_fits report = is_machine report.image (start_memory report.image) report.setup.cores [] (machine_of report) refl
 
-pub items_within : (report : ReportValue) (items : List Item) (start : FlatMachine) → IsReport report → items ≡ report.items → start ≡ machine_of report
+pub items_within : (report : ReportValue) (items : List Item) (start : FlatMachine) → IsReport report → items ≡ report.items
+    → start ≡ machine_of report
     → AllByRecursion (IsItem (length start.cores) (memory_bytes start)) items
 items_within report items start is items_are start_is =
     let fits = start_fits report in
@@ -54,12 +59,14 @@ items_within report items start is items_are start_is =
 
 -- what is told behind accesses that the machine makes
 
-pub none_told : (report : ReportValue) (machine : FlatMachine) (told : Option Difference) → IsReport report → entered_all (entries report.items) (machine_of report) ≡ Some machine
+pub none_told : (report : ReportValue) (machine : FlatMachine) (told : Option Difference) → IsReport report
+    → entered_all (entries report.items) (machine_of report) ≡ Some machine
     → told ≡ first_told (outcome_judged report machine) → IfNone told (IsRightReport report)
 none_told report machine None is made told_is = no_difference_is_right report is machine made (sym told_is)
 none_told report machine (Some difference) is made told_is = tt
 
-pub some_told : (report : ReportValue) (machine : FlatMachine) (told : Option Difference) → entered_all (entries report.items) (machine_of report) ≡ Some machine
+pub some_told : (report : ReportValue) (machine : FlatMachine) (told : Option Difference)
+    → entered_all (entries report.items) (machine_of report) ≡ Some machine
     → told ≡ first_told (outcome_judged report machine) → IfSome told (λ difference. IsDifference report difference)
 some_told report machine None made told_is = tt
 some_told report machine (Some difference) made told_is = inr (record { machine = machine; made = made; first = sym told_is })

@@ -1,24 +1,26 @@
 -- How far a core comes that is to catch up, and what its rows judge.
-use Rattle.std.proofs.Common.{◌≡◌, ℕ, zero, suc, ◌+◌, ◌-◌, ◌<◌, ◌≤◌, List, ◌++◌, length, get_or, map, Option, Some, None, refl, sym, ap, ◌∙◌, arith}
+use Rattle.std.proofs.Common.{◌≡◌, ℕ, zero, suc, ◌+◌, ◌-◌, ◌<◌, ◌≤◌, List, ◌++◌, length, get_or, map, Option, Some, None, refl, sym, ap}
+use Rattle.std.proofs.Common.{◌∙◌, arith}
 use Rattle.std.specs.Prelude.{◌==◌, slice_get}
 use Rattle.std.specs.List.{count_by}
 use Rattle.std.proofs.lemmas.List.Sums.{length-filter}
 use Rattle.std.specs.Option.{option_map}
 use Rattle.std.proofs.lemmas.List.{length-map}
 use Rattle.std.proofs.lemmas.Option.{same_Some, slice_get-map, slice_get_within, slice_get_read}
+use Rattle.std_laws.proofs.OptionLaws.{option_and_then_parts}
 use Rattle.mips_isa.specs.declared.CoreState.{CoreState}
 use Rattle.mips_isa.specs.declared.Next.{Next}
-use Rattle.mips_isa.specs.declared.Next.TheVariants.{Stops, Asks, Goes}
 use Rattle.mips_isa.specs.Steps.{next_of}
 use Rattle.access_log.specs.declared.Core.{Core}
 use Rattle.access_log.specs.declared.Entry.{Entry}
 use Rattle.access_log.specs.declared.Item.{Item}
 use Rattle.access_log.specs.Items.{entries}
 use Rattle.access_log.specs.Replay.{FlatMachine, memory_bytes, quiet, quiet_steps, caught_up, own}
-use Rattle.access_log.proofs.ReplayLaws.{and_then_parts, CaughtUp-from}
+use Rattle.access_log.proofs.ReplayLaws.{CaughtUp-from}
 use Rattle.seq_machine.specs.declared.Reach.{Reach}
 use Rattle.seq_machine.specs.declared.Reach.TheVariants.{There, AccessAt, StopAt, Passed}
-use Rattle.seq_machine.specs.Reaching.{Reaches, CatchesUp, IsAtAccess, IsAtStop}
+use Rattle.seq_machine.specs.Reaching.{Reaches, CatchesUp}
+use Rattle.seq_machine.proofs.ReachingLaws.{access_not_quiet, stop_not_quiet}
 use Rattle.timetable.specs.declared.CoreEnd.{CoreEnd}
 use Rattle.report_rows.specs.Ends.{EndValue, end_value}
 use Rattle.report_text.specs.Counts.{at_entry}
@@ -29,13 +31,16 @@ use Rattle.replayer.specs.Cores.{farthest, core_to, end_judged, core_judged}
 use Rattle.replayer.proofs.RightCores.{core_of, farther, farthest-caught_up}
 
 -- the accesses of a core are counted among all items
-pub accesses_counted : (items : List Item) (core : ℕ) → count_by (at_entry (λ (entry : Entry). entry.core == core)) items ≡ length (own (entries items) core)
+pub accesses_counted : (items : List Item) (core : ℕ)
+    → count_by (at_entry (λ (entry : Entry). entry.core == core)) items ≡ length (own (entries items) core)
 accesses_counted items core =
-    count_by_at_entry (λ (entry : Entry). entry.core == core) items ∙ sym (length-filter (λ (entry : Entry). entry.core == core) (entries items))
+    count_by_at_entry (λ (entry : Entry). entry.core == core) items
+    ∙ sym (length-filter (λ (entry : Entry). entry.core == core) (entries items))
 
 -- ---- how far a core comes
 
-farthest-farther : (code : List ℕ) (bytes steps : ℕ) (core : Core) → farthest code bytes (suc steps) core ≡ farther code bytes steps core (quiet (next_of code bytes core.state))
+farthest-farther : (code : List ℕ) (bytes steps : ℕ) (core : Core)
+    → farthest code bytes (suc steps) core ≡ farther code bytes steps core (quiet (next_of code bytes core.state))
 unfolding farthest
 farthest-farther code bytes steps core = refl
 
@@ -45,13 +50,15 @@ farthest-zero code bytes zero core is = refl
 farthest-zero code bytes (suc steps) core is = absurd (omega arith)
 
 -- a core before a stop or an access stays
-farthest-blocked : (code : List ℕ) (bytes steps : ℕ) (core : Core) → quiet (next_of code bytes core.state) ≡ None → farthest code bytes steps core ≡ core
+farthest-blocked : (code : List ℕ) (bytes steps : ℕ) (core : Core) → quiet (next_of code bytes core.state) ≡ None
+    → farthest code bytes steps core ≡ core
 farthest-blocked code bytes zero core blocked = farthest-zero code bytes zero core refl
 farthest-blocked code bytes (suc steps) core blocked =
     farthest-farther code bytes steps core ∙ ap (farther code bytes steps core) blocked
 
 -- quiet instructions are executed first
-farthest-quiet : (code : List ℕ) (bytes k steps rest : ℕ) (core : Core) (state : CoreState) → steps ≡ k + rest → quiet_steps code bytes k core.state ≡ Some state
+farthest-quiet : (code : List ℕ) (bytes k steps rest : ℕ) (core : Core) (state : CoreState) → steps ≡ k + rest
+    → quiet_steps code bytes k core.state ≡ Some state
     → farthest code bytes steps core ≡ farthest code bytes rest (core_of (core.executed + k) state)
 unfolding quiet_steps
 farthest-quiet code bytes zero steps rest core state is quiet_is =
@@ -62,7 +69,7 @@ farthest-quiet code bytes zero steps rest core state is quiet_is =
     ∙ ap (λ n. farthest code bytes rest (core_of n state)) stays
 farthest-quiet code bytes (suc k) zero rest core state is quiet_is = absurd (omega arith)
 farthest-quiet code bytes (suc k) (suc steps) rest core state is quiet_is =
-    let first = and_then_parts (quiet_steps code bytes k) (quiet (next_of code bytes core.state)) state quiet_is in
+    let first = option_and_then_parts (quiet_steps code bytes k) (quiet (next_of code bytes core.state)) state quiet_is in
     let same : steps ≡ k + rest = omega arith in
     let more : core.executed + 1 + k ≡ core.executed + suc k = omega arith in
     farthest-farther code bytes steps core
@@ -80,57 +87,55 @@ farthest-from code bytes m n core new few h =
     farthest-quiet code bytes (m - core.executed) (n - core.executed) (n - m) core new.state (omega arith) c.steps
     ∙ ap (λ e. farthest code bytes (n - m) (core_of e new.state)) count
 
-at_access : (next : Next) → IsAtAccess next → quiet next ≡ None
-at_access (Asks access) h = refl
-at_access (Stops stop) h = refl
-at_access (Goes state) h = absurd h
-
-at_stop : (next : Next) → IsAtStop next → quiet next ≡ None
-at_stop (Asks access) h = refl
-at_stop (Stops stop) h = refl
-at_stop (Goes state) h = absurd h
-
 -- where each answer leaves the core
-reached : (code : List ℕ) (bytes n : ℕ) (old : Core) (reach : Reach) (new : Core) → Reaches code bytes n old reach new → farthest code bytes (n - old.executed) old ≡ new
+reached : (code : List ℕ) (bytes n : ℕ) (old : Core) (reach : Reach) (new : Core) → Reaches code bytes n old reach new
+    → farthest code bytes (n - old.executed) old ≡ new
 reached code bytes n old There new h = farthest-caught_up code bytes n old new h
 reached code bytes n old (AccessAt m) new h =
     let few : m ≤ n = omega (arith, h.0) in
-    farthest-from code bytes m n old new few h.1 ∙ farthest-blocked code bytes (n - m) new (at_access (next_of code bytes new.state) h.2)
+    farthest-from code bytes m n old new few h.1
+    ∙ farthest-blocked code bytes (n - m) new (access_not_quiet (next_of code bytes new.state) h.2)
 reached code bytes n old (StopAt m) new h =
     let few : m ≤ n = omega (arith, h.0) in
-    farthest-from code bytes m n old new few h.1 ∙ farthest-blocked code bytes (n - m) new (at_stop (next_of code bytes new.state) h.2)
+    farthest-from code bytes m n old new few h.1
+    ∙ farthest-blocked code bytes (n - m) new (stop_not_quiet (next_of code bytes new.state) h.2)
 reached code bytes n old (Passed m) new h =
     farthest-zero code bytes (n - old.executed) old (omega (arith, h.0, h.1)) ∙ sym h.2
 
 -- the core that was to catch up has come as far as it can
-pub caught_up_to : (machine new : FlatMachine) (place n : ℕ) (reach : Reach) (h : CatchesUp machine place n reach new) (before : Core) → slice_get machine.cores place ≡ Some before
+pub caught_up_to : (machine new : FlatMachine) (index n : ℕ) (reach : Reach) (h : CatchesUp machine index n reach new) (before : Core)
+    → slice_get machine.cores index ≡ Some before
     → core_to machine n before ≡ h.after
-caught_up_to machine new place n reach h before was =
+caught_up_to machine new index n reach h before was =
     let same : before ≡ h.before = same_Some before h.before (sym was ∙ h.was) in
     ap (core_to machine n) same ∙ reached machine.code (memory_bytes machine) n h.before reach h.after h.reaches
 
 -- ---- its rows
 
--- what is read of a core in a place
-pub stands : (cores : List Core) (place executed : ℕ) (core : Core) (state : CoreState) → slice_get cores place ≡ Some core
-    → option_map (λ (c : Core). c.state) (slice_get cores place) ≡ Some state → option_map (λ (c : Core). c.executed) (slice_get cores place) ≡ Some executed
+-- what is read of a core at an index
+pub stands : (cores : List Core) (index executed : ℕ) (core : Core) (state : CoreState) → slice_get cores index ≡ Some core
+    → option_map (λ (c : Core). c.state) (slice_get cores index) ≡ Some state
+    → option_map (λ (c : Core). c.executed) (slice_get cores index) ≡ Some executed
     → core_of executed state ≡ core
-stands cores place executed core state is state_is executed_is =
+stands cores index executed core state is state_is executed_is =
     let same_state : core.state ≡ state = same_Some core.state state (sym (ap (option_map (λ (c : Core). c.state)) is) ∙ state_is) in
-    let same_executed : core.executed ≡ executed = same_Some core.executed executed (sym (ap (option_map (λ (c : Core). c.executed)) is) ∙ executed_is) in
+    let same_executed : core.executed ≡ executed =
+    same_Some core.executed executed (sym (ap (option_map (λ (c : Core). c.executed)) is) ∙ executed_is) in
     rw (← same_state, ← same_executed) refl
 
--- the end that is kept in a place
-pub kept_at : (ends : List CoreEnd) (place : ℕ) (ended : CoreEnd) (kept : EndValue) → ended ≡ get_or ends place ended
-    → slice_get (map end_value ends) place ≡ Some kept → end_value ended ≡ kept
-kept_at ends place ended kept is there =
-    let below : place < length ends = omega (arith, slice_get_within (map end_value ends) place kept there, length-map ends end_value) in
-    let got : slice_get ends place ≡ Some ended = slice_get_read ends (length ends) place ended refl below is in
-    same_Some (end_value ended) kept (sym (slice_get-map end_value ends place ∙ ap (option_map end_value) got) ∙ there)
+-- the end that is kept at an index
+pub kept_at : (ends : List CoreEnd) (index : ℕ) (ended : CoreEnd) (kept : EndValue) → ended ≡ get_or ends index ended
+    → slice_get (map end_value ends) index ≡ Some kept → end_value ended ≡ kept
+kept_at ends index ended kept is there =
+    let below : index < length ends = omega (arith, slice_get_within (map end_value ends) index kept there, length-map ends end_value) in
+    let got : slice_get ends index ≡ Some ended = slice_get_read ends (length ends) index ended refl below is in
+    same_Some (end_value ended) kept (sym (slice_get-map end_value ends index ∙ ap (option_map end_value) got) ∙ there)
 
 -- they are judged by where it stands, in other words
-pub core_rows : (line budget : ℕ) (machine : FlatMachine) (kept other : EndValue) (accesses made : ℕ) (there core : Core) (next : Next) (told : Option Difference)
-    → told ≡ first_told (end_judged line budget other (there.executed + accesses) there next ++ registers_judged (line + 1) other.state.regs there.state.regs)
+pub core_rows : (line budget : ℕ) (machine : FlatMachine) (kept other : EndValue) (accesses made : ℕ) (there core : Core) (next : Next)
+    (told : Option Difference)
+    → told ≡ first_told (end_judged line budget other (there.executed + accesses) there next
+    ++ registers_judged (line + 1) other.state.regs there.state.regs)
     → other ≡ kept → accesses ≡ made → there ≡ core → next ≡ next_of machine.code (memory_bytes machine) there.state
     → told ≡ first_told (core_judged line budget machine kept made core)
 core_rows line budget machine kept other accesses made there core next told is kept_is made_is core_is next_is =

@@ -1,5 +1,6 @@
--- The first difference of lists of judgments: of one behind another, and of one from a place on.
-use Rattle.std.proofs.Common.{◌≡◌, ℕ, ◌+◌, ◌/◌, ◌<◌, Bool, true, false, cond, List, [], ◌∷◌, ◌++◌, get_or, drop, map, Option, Some, None, refl, sym, ap, ◌∙◌, arith}
+-- The first difference of lists of judgments: of one behind another, and of one from an index on.
+use Rattle.std.proofs.Common.{◌≡◌, ℕ, ◌+◌, ◌/◌, ◌<◌, Bool, true, false, cond, List, [], ◌∷◌, ◌++◌, get_or, drop, map, Option, Some, None}
+use Rattle.std.proofs.Common.{refl, sym, ap, ◌∙◌, arith}
 use Rattle.std.specs.List.{range_with_len, slice_index}
 use Rattle.std.proofs.lemmas.Bool.{eq-eqb, ne_eqb}
 use Rattle.std.proofs.lemmas.List.{at_drop_more}
@@ -35,18 +36,20 @@ first_before (j ∷ a) b difference e = before j a b difference j.same refl e (f
 abbrev pub each_judged : (ℕ → Judgment) → ℕ → List Judgment
 each_judged judged n = map judged (range_with_len 0 n)
 
-each_at : (judged : ℕ → Judgment) (n i : ℕ) → i < n → first_told (drop i (each_judged judged n)) ≡ step (judged i) (drop (i + 1) (each_judged judged n)) (judged i).same
+each_at : (judged : ℕ → Judgment) (n i : ℕ) → i < n
+    → first_told (drop i (each_judged judged n)) ≡ step (judged i) (drop (i + 1) (each_judged judged n)) (judged i).same
 each_at judged n i below =
     at_drop_more first_told (each_judged judged n) i (judged i) (omega (arith, length-map-range_with_len judged 0 n))
-    ∙ ap (λ (j : Judgment). step j (drop (i + 1) (each_judged judged n)) j.same) (get_or-map-range_with_len judged 0 n i i (judged i) below (omega arith))
+    ∙ ap (λ (j : Judgment). step j (drop (i + 1) (each_judged judged n)) j.same)
+    (get_or-map-range_with_len judged 0 n i i (judged i) below (omega arith))
 
--- a place that is as due is passed over
+-- a value that is as due is passed over
 pub each_same : (judged : ℕ → Judgment) (n i : ℕ) → i < n → (judged i).same ≡ true
     → first_told (drop (i + 1) (each_judged judged n)) ≡ first_told (drop i (each_judged judged n))
 each_same judged n i below same =
     sym (each_at judged n i below ∙ ap (step (judged i) (drop (i + 1) (each_judged judged n))) same)
 
--- a place that isn't is the first
+-- a value that isn't is the first
 pub each_differs : (judged : ℕ → Judgment) (n i : ℕ) → i < n → (judged i).same ≡ false
     → first_told (drop i (each_judged judged n)) ≡ Some (told (judged i))
 each_differs judged n i below differs =
@@ -80,7 +83,8 @@ registers_passed line kept due i below same so_far = each_same (register_at line
 pub registers_differ : (line : ℕ) (kept due : List ℕ) (i : ℕ) → i < 32 → (get_or kept i 0 ≡ get_or due i 0 → ⊥)
     → first_told (drop i (registers_judged line kept due)) ≡ first_told (registers_judged line kept due)
     → Some (told (register_at line kept due i)) ≡ first_told (registers_judged line kept due)
-registers_differ line kept due i below differs so_far = sym (each_differs (register_at line kept due) 32 i below (ne_eqb _ _ differs)) ∙ so_far
+registers_differ line kept due i below differs so_far = sym (each_differs (register_at line kept due) 32 i below (ne_eqb _ _ differs))
+    ∙ so_far
 
 pub counts_end : (line : ℕ) (kept due : List ℕ) (i : ℕ) → i ≡ 13
     → first_told (drop i (counts_judged line kept due)) ≡ first_told (counts_judged line kept due)

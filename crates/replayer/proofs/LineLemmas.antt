@@ -8,7 +8,8 @@ use Rattle.kmp_base.specs.declared.setup.Setup.{Setup}
 use Rattle.kmp_base.specs.Rows.{row_behind, row_text, text_of}
 use Rattle.image_file.specs.Value.{ImageValue, image_bytes}
 use Rattle.report_rows.specs.Ends.{EndValue}
-use Rattle.report_rows.specs.Rows.{bytes_row_at, item_row, memory_row, header_rows, core_rows, access_count_rows, bus_count_rows, wait_count_rows}
+use Rattle.report_rows.specs.Rows.{bytes_row_at, item_row, memory_row, header_rows, core_rows, access_count_rows, bus_count_rows}
+use Rattle.report_rows.specs.Rows.{wait_count_rows}
 use Rattle.report_text.specs.Report.{ReportValue}
 use Rattle.report_text.specs.Text.{image_rows, rows_of_cores, count_rows, run_rows, outcome_rows, report_rows, report_text}
 use Rattle.replayer.specs.Outcome.{entries_line, cores_line, words_line, counts_line}
@@ -46,7 +47,12 @@ length-core core ended = refl
 length-cores : (core : ℕ) (ends : List EndValue) → length (rows_of_cores core ends) ≡ 5 * length ends
 length-cores core [] = refl
 length-cores core (ended ∷ more) =
-    omega (arith, length-append (core_rows core ended) (rows_of_cores (core + 1) more), length-core core ended, length-cores (core + 1) more)
+    omega (
+      arith,
+      length-append (core_rows core ended) (rows_of_cores (core + 1) more),
+      length-core core ended,
+      length-cores (core + 1) more,
+    )
 
 length-counts : (counts : List ℕ) → length (count_rows counts) ≡ 13
 unfolding access_count_rows bus_count_rows wait_count_rows
@@ -60,14 +66,22 @@ entries_line_is report =
 
 pub cores_line_is : (report : ReportValue) → cores_line report ≡ entries_line report + length report.items
 cores_line_is report =
-    omega (arith, length-append (header_rows report.setup ++ image_rows report.image) (map item_row report.items), length-map report.items item_row)
+    omega (
+      arith,
+      length-append (header_rows report.setup ++ image_rows report.image) (map item_row report.items),
+      length-map report.items item_row,
+    )
 
 pub words_line_is : (report : ReportValue) → words_line report ≡ cores_line report + 5 * length report.cores
 words_line_is report = omega (arith, length-append (run_rows report) (rows_of_cores 0 report.cores), length-cores 0 report.cores)
 
 pub counts_line_is : (report : ReportValue) → counts_line report ≡ words_line report + length report.words
 counts_line_is report =
-    omega (arith, length-append (run_rows report ++ rows_of_cores 0 report.cores) (map memory_row report.words), length-map report.words memory_row)
+    omega (
+      arith,
+      length-append (run_rows report ++ rows_of_cores 0 report.cores) (map memory_row report.words),
+      length-map report.words memory_row,
+    )
 
 -- the last line is no greater than the number of bytes
 pub last_line : (report : ReportValue) → counts_line report + 13 ≤ length (report_text report)

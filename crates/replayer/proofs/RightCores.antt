@@ -43,8 +43,10 @@ steps-farthest code bytes zero core state all =
 steps-farthest code bytes (suc steps) core state all =
     by_next (λ there. steps-farthest code bytes steps (core_of (core.executed + 1) there) state) (quiet (next_of code bytes core.state)) all
   where
-    by_next : ((there : CoreState) → quiet_steps code bytes steps there ≡ Some state → farthest code bytes steps (core_of (core.executed + 1) there) ≡ core_of (core.executed + 1 + steps) state)
-        → (next : Option CoreState) → option_and_then (quiet_steps code bytes steps) next ≡ Some state → farther code bytes steps core next ≡ core_of (core.executed + suc steps) state
+    by_next : ((there : CoreState) → quiet_steps code bytes steps there ≡ Some state
+        → farthest code bytes steps (core_of (core.executed + 1) there) ≡ core_of (core.executed + 1 + steps) state)
+        → (next : Option CoreState) → option_and_then (quiet_steps code bytes steps) next ≡ Some state
+        → farther code bytes steps core next ≡ core_of (core.executed + suc steps) state
     by_next others (Some there) all =
         let e : core.executed + 1 + steps ≡ core.executed + suc steps = omega arith in
         others there all ∙ ap (λ n. core_of n state) e
@@ -69,7 +71,8 @@ caught_up-farthest code bytes n core all = elim (cases_lt n core.executed) [
       (record { before = within; steps = farthest-steps code bytes (n - core.executed) core (all ∙ e); count = all }))
 ]
 
-pub farthest-caught_up : (code : List ℕ) (bytes n : ℕ) (core final : Core) → caught_up code bytes n core ≡ Some final → farthest code bytes (n - core.executed) core ≡ final
+pub farthest-caught_up : (code : List ℕ) (bytes n : ℕ) (core final : Core) → caught_up code bytes n core ≡ Some final
+    → farthest code bytes (n - core.executed) core ≡ final
 farthest-caught_up code bytes n core final caught =
     let is = CaughtUp-from code bytes n core final caught in
     let within : core.executed ≤ n = is.before in

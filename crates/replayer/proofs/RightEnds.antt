@@ -2,6 +2,7 @@
 use Rattle.std.proofs.Common.{◌≡◌, ℕ, ◌+◌, ◌<◌, ◌≤◌, true, List, ◌++◌, length, refl, sym, ap, ◌∙◌}
 use Rattle.std.specs.Prelude.{◌==◌, nat_le, nat_lt}
 use Rattle.std.proofs.lemmas.Bool.{eqb-true, eq-eqb, and_parts, and_from, leb-true, le-leb, lt-leb, ltb-true, lt-ltb}
+use Rattle.std_laws.proofs.ListLaws.{AllByRecursion-append, AllByRecursion-parts}
 use Rattle.mips_isa.specs.declared.CoreState.{CoreState}
 use Rattle.mips_isa.specs.declared.Next.{Next}
 use Rattle.mips_isa.specs.declared.Next.TheVariants.{Stops, Asks, Goes}
@@ -12,7 +13,7 @@ use Rattle.right_run.specs.Cycles.{plain_cycles, EndsRightly}
 use Rattle.report_rows.specs.Ends.{EndValue}
 use Rattle.replayer.specs.Judgments.{is_same_end, registers_judged}
 use Rattle.replayer.specs.Cores.{due_end, may_be_spent, due_cycles, end_judged}
-use Rattle.replayer.proofs.RightJudgments.{Agree, agree-parts, agree-append, registers_same, registers_agree, stop_is, stop_same}
+use Rattle.replayer.proofs.RightJudgments.{Agree, registers_same, registers_agree, stop_is, stop_same, Agrees}
 
 -- an end, judged
 record EndAgrees (budget cycles used : ℕ) (kept : End) (next : Next) : Type 0 where
@@ -20,7 +21,8 @@ record EndAgrees (budget cycles used : ℕ) (kept : End) (next : Next) : Type 0 
   pub allowed : may_be_spent budget used kept next ≡ true
   pub cycles_are : (cycles == due_cycles budget used kept) ≡ true
 
-end_right : (budget cycles used : ℕ) (kept : End) (next : Next) → cycles ≤ budget → EndAgrees budget cycles used kept next → EndsRightly kept budget cycles used next
+end_right : (budget cycles used : ℕ) (kept : End) (next : Next) → cycles ≤ budget → EndAgrees budget cycles used kept next
+    → EndsRightly kept budget cycles used next
 end_right budget cycles used (Stopped stop) (Stops due) within h =
     (ap Stops (sym (stop_is stop due h.end)), eqb-true cycles (used + 1) h.cycles_are, within)
 end_right budget cycles used (Stopped stop) (Goes state) within h = (let e = h.end in cc)
@@ -34,7 +36,8 @@ spent_due budget used (Stops stop) late = rw (lt-leb (used + 1) budget late) ref
 spent_due budget used (Goes state) late = refl
 spent_due budget used (Asks access) late = refl
 
-end_agrees : (budget cycles used : ℕ) (kept : End) (next : Next) → EndsRightly kept budget cycles used next → EndAgrees budget cycles used kept next
+end_agrees : (budget cycles used : ℕ) (kept : End) (next : Next) → EndsRightly kept budget cycles used next
+    → EndAgrees budget cycles used kept next
 end_agrees budget cycles used (Stopped stop) next right = record {
   end = ap (λ n. is_same_end (Stopped stop) (due_end budget used (Stopped stop) n)) right.0 ∙ stop_same stop;
   allowed = refl;
@@ -42,7 +45,8 @@ end_agrees budget cycles used (Stopped stop) next right = record {
 }
 end_agrees budget cycles used Spent next right = record {
   end = spent_due budget used next right.2;
-  allowed = and_from (nat_le used budget) (nat_lt budget (used + plain_cycles next)) (le-leb used budget right.1) (lt-ltb budget (used + plain_cycles next) right.2);
+  allowed = and_from (nat_le used budget) (nat_lt budget (used + plain_cycles next)) (le-leb used budget right.1)
+      (lt-ltb budget (used + plain_cycles next) right.2);
   cycles_are = eq-eqb cycles budget right.0;
 }
 
@@ -61,25 +65,32 @@ state_is a b pc dpc regs =
     make : ℕ → ℕ → List ℕ → CoreState
     make n m rs = record { pc = n; dpc = m; regs = rs }
 
-pub is_right_end : (line budget : ℕ) (kept : EndValue) (accesses : ℕ) (next : Next) (there : Core) → kept.cycles ≤ budget → length kept.state.regs ≡ 32 → length there.state.regs ≡ 32
-    → Agree (end_judged line budget kept (there.executed + accesses) there next ++ registers_judged (line + 1) kept.state.regs there.state.regs) → IsRightEnd budget kept accesses next there
+pub is_right_end : (line budget : ℕ) (kept : EndValue) (accesses : ℕ) (next : Next) (there : Core) → kept.cycles ≤ budget
+    → length kept.state.regs ≡ 32 → length there.state.regs ≡ 32
+    → Agree (end_judged line budget kept (there.executed + accesses) there next
+    ++ registers_judged (line + 1) kept.state.regs there.state.regs) → IsRightEnd budget kept accesses next there
 is_right_end line budget kept accesses next there within kept_has there_has all =
-    let parts = agree-parts (end_judged line budget kept (there.executed + accesses) there next) (registers_judged (line + 1) kept.state.regs there.state.regs) all in
+    let parts = AllByRecursion-parts Agrees (end_judged line budget kept (there.executed + accesses) there next)
+    (registers_judged (line + 1) kept.state.regs there.state.regs) all in
     let row = parts.0 in
     record {
       retired = eqb-true kept.retired there.executed row.0;
-      ends = end_right budget kept.cycles (there.executed + accesses) kept.end next within (record { end = row.1.0; allowed = row.1.1.0; cycles_are = row.1.1.1.0 });
+      ends = end_right budget kept.cycles (there.executed + accesses) kept.end next within
+          (record { end = row.1.0; allowed = row.1.1.0; cycles_are = row.1.1.1.0 });
       state = state_is kept.state there.state
           (eqb-true kept.state.pc there.state.pc row.1.1.1.1.0)
           (eqb-true kept.state.dpc there.state.dpc row.1.1.1.1.1.0)
           (registers_same (line + 1) kept.state.regs there.state.regs kept_has there_has parts.1);
     }
 
-pub right_end_agrees : (line budget : ℕ) (kept : EndValue) (accesses : ℕ) (next : Next) (there : Core) → IsRightEnd budget kept accesses next there
-    → Agree (end_judged line budget kept (there.executed + accesses) there next ++ registers_judged (line + 1) kept.state.regs there.state.regs)
+pub right_end_agrees : (line budget : ℕ) (kept : EndValue) (accesses : ℕ) (next : Next) (there : Core)
+    → IsRightEnd budget kept accesses next there
+    → Agree (end_judged line budget kept (there.executed + accesses) there next
+    ++ registers_judged (line + 1) kept.state.regs there.state.regs)
 right_end_agrees line budget kept accesses next there right =
     let ends = end_agrees budget kept.cycles (there.executed + accesses) kept.end next right.ends in
-    agree-append (end_judged line budget kept (there.executed + accesses) there next) (registers_judged (line + 1) kept.state.regs there.state.regs) (
+    AllByRecursion-append Agrees (end_judged line budget kept (there.executed + accesses) there next)
+    (registers_judged (line + 1) kept.state.regs there.state.regs) (
       eq-eqb kept.retired there.executed right.retired,
       (
         ends.end,

@@ -1,5 +1,5 @@
 -- No difference is told exactly where all judgments agree, and then what is kept is what is due.
-use Rattle.std.proofs.Common.{◌≡◌, ℕ, zero, suc, ◌+◌, ◌/◌, ◌<◌, Bool, true, false, cond, List, [], ◌∷◌, ◌++◌, length, refl, sym, ap, ◌∙◌, arith}
+use Rattle.std.proofs.Common.{◌≡◌, ℕ, zero, suc, ◌+◌, ◌/◌, ◌<◌, Bool, true, false, cond, List, [], ◌∷◌, length, refl, sym, ap, ◌∙◌, arith}
 use Rattle.std.specs.Prelude.{◌==◌, map, slice_index, Some, None}
 use Rattle.std.specs.List.{AllByRecursion, range_with_len}
 use Rattle.std.proofs.lemmas.Bool.{eqb-true, eq-eqb, and_parts, and_from}
@@ -9,12 +9,17 @@ use Rattle.mips_isa.specs.declared.Stop.{Stop}
 use Rattle.mips_isa.specs.declared.Stop.TheVariants.{OffCode, Halt, Misaligned, Outside, CodeWrite}
 use Rattle.access_log.specs.declared.field.Field.TheVariants as fields
 use Rattle.report_rows.specs.declared.MemoryWord.{MemoryWord}
-use Rattle.replayer.specs.Judgments.{Judgment, number, word, told, first_told, is_same_stop, counts_judged, registers_judged, is_same_memory_word, words_judged}
+use Rattle.replayer.specs.Judgments.{Judgment, number, word, told, first_told, is_same_stop, counts_judged, registers_judged}
+use Rattle.replayer.specs.Judgments.{is_same_memory_word, words_judged}
+
+abbrev pub Agrees : Judgment → Type 0
+Agrees judgment = judgment.same ≡ true
 
 abbrev pub Agree : List Judgment → Type 0
-Agree judgments = AllByRecursion (λ judgment. judgment.same ≡ true) judgments
+Agree judgments = AllByRecursion Agrees judgments
 
-none_step : (judgment : Judgment) (more : List Judgment) (same : Bool) → cond same (first_told more) (Some (told judgment)) ≡ None → (same ≡ true) × (first_told more ≡ None)
+none_step : (judgment : Judgment) (more : List Judgment) (same : Bool) → cond same (first_told more) (Some (told judgment)) ≡ None
+    → (same ≡ true) × (first_told more ≡ None)
 none_step judgment more true none = (refl, none)
 none_step judgment more false none = absurd (none-some (told judgment) (sym none))
 
@@ -28,17 +33,7 @@ pub none_differs : (judgments : List Judgment) → Agree judgments → first_tol
 none_differs [] all = refl
 none_differs (judgment ∷ more) all = ap (λ same. cond same (first_told more) (Some (told judgment))) all.0 ∙ none_differs more all.1
 
-pub agree-parts : (first others : List Judgment) → Agree (first ++ others) → Agree first × Agree others
-agree-parts [] others all = (tt, all)
-agree-parts (judgment ∷ more) others all =
-    let parts = agree-parts more others all.1 in
-    ((all.0, parts.0), parts.1)
-
-pub agree-append : (first others : List Judgment) → Agree first → Agree others → Agree (first ++ others)
-agree-append [] others all more = more
-agree-append (judgment ∷ first) others all more = (all.0, agree-append first others all.1 more)
-
--- ---- numbers, each with the number of its place
+-- ---- numbers, each with its index
 
 agree_at : (f : ℕ → Judgment) (a n i : ℕ) → Agree (map f (range_with_len a n)) → i < n → (f (a + i)).same ≡ true
 agree_at f a zero i all below = absurd (omega arith)
@@ -53,11 +48,12 @@ agree_each : (f : ℕ → Judgment) (a n : ℕ) → ((i : ℕ) → (f i).same �
 agree_each f a zero each = tt
 agree_each f a (suc n) each = (each a, agree_each f (a + 1) n each)
 
--- lists of so many numbers, judged place by place
+-- lists of so many numbers, judged one by one
 abbrev Judges : List ℕ → List ℕ → (ℕ → Judgment) → Type 0
 Judges kept due f = (i : ℕ) → (f i).same ≡ (slice_index kept i == slice_index due i)
 
-numbers_same : (n : ℕ) (kept due : List ℕ) (f : ℕ → Judgment) → Judges kept due f → length kept ≡ n → length due ≡ n → Agree (map f (range_with_len 0 n)) → kept ≡ due
+numbers_same : (n : ℕ) (kept due : List ℕ) (f : ℕ → Judgment) → Judges kept due f → length kept ≡ n → length due ≡ n
+    → Agree (map f (range_with_len 0 n)) → kept ≡ due
 numbers_same n kept due f judges kept_has due_has all =
     same_number_lists kept due (kept_has ∙ sym due_has) (λ i below. eqb-true _ _ (sym (judges i) ∙ here i (omega arith)))
   where
@@ -80,7 +76,8 @@ counts_same line kept due kept_has due_has all = numbers_same 13 kept due (count
 pub counts_agree : (line : ℕ) (kept due : List ℕ) → kept ≡ due → Agree (counts_judged line kept due)
 counts_agree line kept due same = numbers_agree 13 kept due (count_at line kept due) (λ i. refl) same
 
-pub registers_same : (line : ℕ) (kept due : List ℕ) → length kept ≡ 32 → length due ≡ 32 → Agree (registers_judged line kept due) → kept ≡ due
+pub registers_same : (line : ℕ) (kept due : List ℕ) → length kept ≡ 32 → length due ≡ 32 → Agree (registers_judged line kept due)
+    → kept ≡ due
 registers_same line kept due kept_has due_has all = numbers_same 32 kept due (register_at line kept due) (λ i. refl) kept_has due_has all
 
 pub registers_agree : (line : ℕ) (kept due : List ℕ) → kept ≡ due → Agree (registers_judged line kept due)

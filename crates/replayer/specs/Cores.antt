@@ -1,5 +1,6 @@
 -- What is due in the rows of cores.
-use Rattle.std.specs.Prelude.{ℕ, zero, suc, ◌+◌, ◌-◌, Bool, true, ◌&&◌, nat_le, nat_lt, if◌then◌else◌, List, [], ◌∷◌, ◌++◌, length, Some, None}
+use Rattle.std.specs.Prelude.{ℕ, zero, suc, ◌+◌, ◌-◌, Bool, true, ◌&&◌, nat_le, nat_lt, if◌then◌else◌, List, [], ◌∷◌, ◌++◌, length, Some}
+use Rattle.std.specs.Prelude.{None}
 use Rattle.mips_isa.specs.declared.Next.{Next}
 use Rattle.mips_isa.specs.declared.Next.TheVariants.{Stops, Asks, Goes}
 use Rattle.mips_isa.specs.Steps.{next_of}
@@ -66,7 +67,7 @@ core_judged line budget machine kept accesses there =
 
 -- The rows of the cores from a number on, from a line on, behind these accesses.
 abbrev pub cores_judged : ℕ → ℕ → FlatMachine → List Entry → ℕ → List EndValue → List Core → List Judgment
-cores_judged line budget machine order place (kept ∷ ends) (core ∷ cores) =
-    core_judged line budget machine kept (length (own order place)) (core_to machine kept.retired core)
-    ++ cores_judged (line + 5) budget machine order (place + 1) ends cores
-cores_judged line budget machine order place ends cores = []
+cores_judged line budget machine order index (kept ∷ ends) (core ∷ cores) =
+    core_judged line budget machine kept (length (own order index)) (core_to machine kept.retired core)
+    ++ cores_judged (line + 5) budget machine order (index + 1) ends cores
+cores_judged line budget machine order index ends cores = []

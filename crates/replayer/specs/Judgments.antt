@@ -1,5 +1,6 @@
 -- What a row keeps and what is due there, field by field, and the first field that differs.
-use Rattle.std.specs.Prelude.{ℕ, ◌+◌, ◌/◌, Bool, true, false, ◌==◌, ◌&&◌, if◌then◌else◌, List, [], ◌∷◌, map, slice_index, Option, Some, None}
+use Rattle.std.specs.Prelude.{ℕ, ◌+◌, ◌/◌, Bool, true, false, ◌==◌, ◌&&◌, if◌then◌else◌, List, [], ◌∷◌, map, slice_index, Option, Some}
+use Rattle.std.specs.Prelude.{None}
 use Rattle.std.specs.List.{range_with_len}
 use Rattle.mips_isa.specs.declared.Stop.{Stop}
 use Rattle.mips_isa.specs.declared.Stop.TheVariants.{OffCode, Halt, Misaligned, Outside, CodeWrite}
@@ -71,7 +72,8 @@ counts_judged line kept due = map (λ i. number (line + i) fields.Count (slice_i
 
 -- registers, eight in a row from a line on
 abbrev pub registers_judged : ℕ → List ℕ → List ℕ → List Judgment
-registers_judged line kept due = map (λ i. word (line + i / 8) fields.Register (slice_index kept i) (slice_index due i)) (range_with_len 0 32)
+registers_judged line kept due =
+    map (λ i. word (line + i / 8) fields.Register (slice_index kept i) (slice_index due i)) (range_with_len 0 32)
 
 abbrev pub is_same_memory_word : MemoryWord → MemoryWord → Bool
 is_same_memory_word a b = a.addr == b.addr && a.value == b.value

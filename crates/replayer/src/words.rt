@@ -10,18 +10,18 @@ use image_file::Image;
 use report_rows::MemoryWord;
 use seq_machine::Machine;
 
-/// The first word from a place on, below the last, that isn't 0.
+/// The first word from an index on, below the last, that isn't 0.
 fn next_word(machine: &Machine, from: u32, words: u32) -> Option<MemoryWord>
     requires words { words ≡ length machine.now.memory }
     requires small { words ≤ 2 ^ 22 }
     ensures none { IfNone result (words_past from machine.now.memory ≡ []) }
     ensures some { IfSome result (λ word. words_past from machine.now.memory ≡ word ∷ words_past (word.addr / 4 + 1) machine.now.memory) }
 {
-    for place in from..words {
-        let value = machine.word(4 * place);
+    for index in from..words {
+        let value = machine.word(4 * index);
         if value != 0 {
             return Some(MemoryWord {
-                addr: 4 * place,
+                addr: 4 * index,
                 value,
             });
         }
@@ -43,17 +43,17 @@ pub(crate) fn words_difference(
 {
     let words = 2 * image.memory_lines;
     let mut line = first_line;
-    let mut place = image.code.len() as u32;
+    let mut index = image.code.len() as u32;
     for word in kept {
-        let Some(next) = next_word(machine, place, words) else {
+        let Some(next) = next_word(machine, index, words) else {
             return Some(memory_word(line, found_word(*word), Found::Nothing));
         };
         if *word != next {
             return Some(memory_word(line, found_word(*word), found_word(next)));
         }
         line += 1;
-        place = next.addr / 4 + 1;
+        index = next.addr / 4 + 1;
     }
-    let missing = next_word(machine, place, words)?;
+    let missing = next_word(machine, index, words)?;
     Some(memory_word(line, Found::Nothing, found_word(missing)))
 }

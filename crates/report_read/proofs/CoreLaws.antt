@@ -1,5 +1,6 @@
 -- The rows of a core's end are read as what they spell.
-use Rattle.std.proofs.Common.{◌≡◌, ℕ, zero, suc, ◌+◌, ◌^◌, ◌<◌, ◌≤◌, List, [], ◌∷◌, ◌++◌, length, take, drop, refl, sym, ap, subst, ◌∙◌, arith, append_assoc, length-append, length-drop, drop-drop}
+use Rattle.std.proofs.Common.{◌≡◌, ℕ, zero, suc, ◌+◌, ◌^◌, ◌<◌, ◌≤◌, List, [], ◌∷◌, ◌++◌, length, take, drop, refl, sym, ap, subst, ◌∙◌}
+use Rattle.std.proofs.Common.{arith, append_assoc, length-append, length-drop, drop-drop}
 use Rattle.std.specs.Prelude.{replicate}
 use Rattle.std.specs.List.{AllByRecursion, range_with_len}
 use Rattle.std.proofs.Math.Seq.{take-add}
@@ -56,7 +57,8 @@ are_joined : (a b c d : List ℕ) → length a ≡ 8 → length b ≡ 8 → leng
 are_joined a b c d la lb lc ld =
     let all : joined a b c d ≡ a ++ (b ++ (c ++ d)) = simp append_assoc in
     let from_b : drop 8 (joined a b c d) ≡ b ++ (c ++ d) = ap (drop 8) all ∙ drop_first 8 a (b ++ (c ++ d)) la in
-    let from_c : drop 16 (joined a b c d) ≡ c ++ d = sym (drop-drop 8 8 (joined a b c d)) ∙ ap (drop 8) from_b ∙ drop_first 8 b (c ++ d) lb in
+    let from_c : drop 16 (joined a b c d) ≡ c ++ d = sym (drop-drop 8 8 (joined a b c d)) ∙ ap (drop 8) from_b
+    ∙ drop_first 8 b (c ++ d) lb in
     let from_d : drop 24 (joined a b c d) ≡ d = sym (drop-drop 8 16 (joined a b c d)) ∙ ap (drop 8) from_c ∙ drop_first 8 c d lc in
     record {
       a_is = ap (take 8) all ∙ take_first 8 a (b ++ (c ++ d)) la;
@@ -85,16 +87,24 @@ IsWhole z = (z.rows ≡ []) × (length z.state.regs ≡ 32)
 make_end_is : (z : EndValue) → IsWhole z → make_end (end_row_in z) (regs_in 0 z) (regs_in 8 z) (regs_in 16 z) (regs_in 24 z) ≡ z
 unfolding make_end
 make_end_is z whole =
-    ap (λ regs. record { end = z.end; cycles = z.cycles; retired = z.retired; state = record { pc = z.state.pc; dpc = z.state.dpc; regs = regs }; rows = [] }) (joined_again z.state.regs whole.1)
+    ap (λ regs. record {
+      end = z.end;
+      cycles = z.cycles;
+      retired = z.retired;
+      state = record { pc = z.state.pc; dpc = z.state.dpc; regs = regs };
+      rows = [];
+    }) (joined_again z.state.regs whole.1)
     ∙ ap (λ rows. record { end = z.end; cycles = z.cycles; retired = z.retired; state = z.state; rows = rows }) (sym whole.0)
 
-end_is : (z : EndValue) (row : EndRow) (a b c d : List ℕ) → IsWhole z → end_row_in z ≡ row → regs_in 0 z ≡ a → regs_in 8 z ≡ b → regs_in 16 z ≡ c → regs_in 24 z ≡ d → make_end row a b c d ≡ z
+end_is : (z : EndValue) (row : EndRow) (a b c d : List ℕ) → IsWhole z → end_row_in z ≡ row → regs_in 0 z ≡ a → regs_in 8 z ≡ b
+    → regs_in 16 z ≡ c → regs_in 24 z ≡ d → make_end row a b c d ≡ z
 end_is z row a b c d whole e ea eb ec ed = let all = make_end_is z whole in cc
 
 -- what the rows of a core's end say, in their order
 abbrev EndFields : ℕ → EndValue → Type 0
 EndFields budget z =
-    IsWhole z × (IsEndRow budget (end_row_in z) × (AreEight (regs_in 0 z) × (AreEight (regs_in 8 z) × (AreEight (regs_in 16 z) × (AreEight (regs_in 24 z) × Unit {0})))))
+    IsWhole z × (IsEndRow budget (end_row_in z)
+    × (AreEight (regs_in 0 z) × (AreEight (regs_in 8 z) × (AreEight (regs_in 16 z) × (AreEight (regs_in 24 z) × Unit {0})))))
 
 -- a row that may stand where one is missing
 no_row : EndRow
@@ -132,12 +142,15 @@ end_to budget z h =
     }
 
 eight_of : (first : ℕ) (regs : List ℕ) → length regs ≡ 32 → first ≤ 24 → AllByRecursion IsWord regs → AreEight (eight_at first regs)
-eight_of first regs long within are =
-    (length-take-le 8 (drop first regs) (omega (arith, long, length-drop first regs)), (all_cut IsWord 8 (drop first regs) (all_cut IsWord first regs are).1).0)
+eight_of first regs long within are = (
+  length-take-le 8 (drop first regs) (omega (arith, long, length-drop first regs)),
+  (all_cut IsWord 8 (drop first regs) (all_cut IsWord first regs are).1).0,
+)
 
 end_from : (budget : ℕ) (z : EndValue) → IsEnd budget z → EndFields budget z
 end_from budget z i =
-    let eight : (first : ℕ) → first ≤ 24 → AreEight (regs_in first z) = λ first within. eight_of first z.state.regs i.registers within i.words in (
+    let eight : (first : ℕ) → first ≤ 24 → AreEight (regs_in first z) =
+    λ first within. eight_of first z.state.regs i.registers within i.words in (
       (i.no_rows, i.registers),
       (
         record { cycles = i.cycles; retired = i.retired; pc = i.pc; dpc = i.dpc },
@@ -147,7 +160,8 @@ end_from budget z i =
 
 end_part : (budget core : ℕ) → budget < 2 ^ 64 → IsPart (IsEnd budget) (core_rows core) (end_at budget core)
 end_part budget core small =
-    part_as (EndFields budget) (IsEnd budget) (core_rows core) (core_rows core) (end_at budget core) (end_to budget) (end_from budget) (λ z h. refl) (end_fields budget core small)
+    part_as (EndFields budget) (IsEnd budget) (core_rows core) (core_rows core) (end_at budget core) (end_to budget) (end_from budget)
+    (λ z h. refl) (end_fields budget core small)
 
 -- ---- the ends of the cores
 
@@ -166,7 +180,8 @@ pub ends_part : (budget cores : ℕ) → budget < 2 ^ 64 → IsPart (AreEnds bud
 ends_part budget cores small =
     let keys = range_with_len 0 cores in
     let long : length keys ≡ cores = length-range_with_len 0 cores in
-    part_as (EachFits (λ (core : ℕ). IsEnd budget) keys) (AreEnds budget cores) (each_spell core_rows keys) (rows_of_cores 0) (ends_at budget cores)
+    part_as (EachFits (λ (core : ℕ). IsEnd budget) keys) (AreEnds budget cores) (each_spell core_rows keys) (rows_of_cores 0)
+    (ends_at budget cores)
     (λ ended h. let all = all_each (IsEnd budget) keys ended h in (all.0 ∙ long, all.1))
     (λ ended h. each_all (IsEnd budget) keys ended (h.0 ∙ sym long) h.1)
     (λ ended h. ends_rows budget 0 cores ended h)

@@ -21,7 +21,8 @@ all_apart : {X : Type 0} (P : X → Type 0) (xs ys : List X) → AllByRecursion 
 all_apart P [] ys h = (tt, h)
 all_apart P (x ∷ xs) ys h = let others = all_apart P xs ys h.1 in ((h.0, others.0), others.1)
 
-pub all_cut : {X : Type 0} (P : X → Type 0) (n : ℕ) (xs : List X) → AllByRecursion P xs → AllByRecursion P (take n xs) × AllByRecursion P (drop n xs)
+pub all_cut : {X : Type 0} (P : X → Type 0) (n : ℕ) (xs : List X) → AllByRecursion P xs → AllByRecursion P (take n xs)
+    × AllByRecursion P (drop n xs)
 all_cut P n xs h = all_apart P (take n xs) (drop n xs) (subst (AllByRecursion P) (sym (take-append-drop n xs)) h)
 
 pub all_zeros : (P : ℕ → Type 0) (n : ℕ) → P 0 → AllByRecursion P (replicate n 0)
@@ -29,13 +30,15 @@ all_zeros P n holds = recursion_from_All P (replicate n 0) (All-replicate P n 0 
 
 -- ---- one value for each key, of the same bounds
 
-pub all_each : {A X : Type 0} (P : X → Type 0) (keys : List A) (xs : List X) → EachFits (λ (key : A). P) keys xs → (length xs ≡ length keys) × AllByRecursion P xs
+pub all_each : {A X : Type 0} (P : X → Type 0) (keys : List A) (xs : List X) → EachFits (λ (key : A). P) keys xs → (length xs ≡ length keys)
+    × AllByRecursion P xs
 all_each P [] [] h = (refl, tt)
 all_each P [] (x ∷ xs) h = absurd h
 all_each P (key ∷ keys) [] h = absurd h
 all_each P (key ∷ keys) (x ∷ xs) h = let others = all_each P keys xs h.1 in (ap suc others.0, (h.0, others.1))
 
-pub each_all : {A X : Type 0} (P : X → Type 0) (keys : List A) (xs : List X) → length xs ≡ length keys → AllByRecursion P xs → EachFits (λ (key : A). P) keys xs
+pub each_all : {A X : Type 0} (P : X → Type 0) (keys : List A) (xs : List X) → length xs ≡ length keys → AllByRecursion P xs
+    → EachFits (λ (key : A). P) keys xs
 each_all P [] [] long h = tt
 each_all P [] (x ∷ xs) long h = absurd (omega (arith, long))
 each_all P (key ∷ keys) [] long h = absurd (omega (arith, long))

@@ -1,8 +1,10 @@
 -- The header and the image's rows but the last are read as what they spell.
-use Rattle.std.proofs.Common.{◌≡◌, ℕ, ◌+◌, ◌-◌, ◌*◌, ◌/◌, ◌^◌, ◌<◌, ◌≤◌, zero, suc, List, [], ◌∷◌, ◌++◌, length, take, drop, map, Ok, refl, sym, ap, subst, ◌∙◌, arith, length-append, length-drop, drop-drop}
+use Rattle.std.proofs.Common.{◌≡◌, ℕ, ◌+◌, ◌-◌, ◌*◌, ◌/◌, ◌^◌, ◌<◌, ◌≤◌, zero, suc, List, [], ◌∷◌, ◌++◌, length, take, drop, map, Ok, refl}
+use Rattle.std.proofs.Common.{sym, ap, subst, ◌∙◌, arith, length-append, length-drop, drop-drop}
 use Rattle.std.specs.Prelude.{codes, replicate}
 use Rattle.std.specs.List.{range_with_len}
-use Rattle.std.proofs.lemmas.List.{append-nil, take-append-drop, length-take-le, length-replicate, take-append-le, drop-append-le, take_all, nil_from_length}
+use Rattle.std.proofs.lemmas.List.{append-nil, take-append-drop, length-take-le, length-replicate, take-append-le, drop-append-le, take_all}
+use Rattle.std.proofs.lemmas.List.{nil_from_length}
 use Rattle.kmp_base.specs.declared.setup.Setup.{Setup}
 use Rattle.kmp_base.specs.declared.setup.MachineKind.TheVariants.{Plain}
 use Rattle.kmp_base.specs.declared.setup.Policy.{Policy}
@@ -34,10 +36,20 @@ make_setup cores budget policy turns seed sets ways =
 make_setup_is : (z : Setup) → z.machine ≡ Plain → make_setup z.cores z.budget z.policy z.turns z.seed z.sets z.ways ≡ z
 unfolding make_setup
 make_setup_is z plain =
-    ap (λ machine. record { machine = machine; cores = z.cores; budget = z.budget; policy = z.policy; turns = z.turns; seed = z.seed; sets = z.sets; ways = z.ways }) (sym plain)
+    ap (λ machine. record {
+      machine = machine;
+      cores = z.cores;
+      budget = z.budget;
+      policy = z.policy;
+      turns = z.turns;
+      seed = z.seed;
+      sets = z.sets;
+      ways = z.ways;
+    }) (sym plain)
 
 setup_is : (z : Setup) (cores budget : ℕ) (policy : Policy) (turns : Turns) (seed sets ways : ℕ)
-    → z.machine ≡ Plain → z.cores ≡ cores → z.budget ≡ budget → z.policy ≡ policy → z.turns ≡ turns → z.seed ≡ seed → z.sets ≡ sets → z.ways ≡ ways
+    → z.machine ≡ Plain → z.cores ≡ cores → z.budget ≡ budget → z.policy ≡ policy → z.turns ≡ turns → z.seed ≡ seed → z.sets ≡ sets
+    → z.ways ≡ ways
     → make_setup cores budget policy turns seed sets ways ≡ z
 setup_is z cores budget policy turns seed sets ways plain a b c d e f g = let all = make_setup_is z plain in cc
 
@@ -51,22 +63,37 @@ HeaderFields z =
     (z.machine ≡ Plain) × (Unit {0} × (Unit {0}
     × (((1 ≤ z.cores) × (z.cores ≤ 8)) × (((1 ≤ z.budget) × (z.budget ≤ 100000))
     × (Unit {0} × (Unit {0}
-    × (((0 ≤ z.seed) × (z.seed ≤ 2 ^ 32 - 1)) × ((((k : ℕ) × (z.sets ≡ 2 ^ k)) × (z.sets ≤ 256)) × (((1 ≤ z.ways) × (z.ways ≤ 8)) × Unit {0})))))))))
+    × (((0 ≤ z.seed) × (z.seed ≤ 2 ^ 32 - 1))
+    × ((((k : ℕ) × (z.sets ≡ 2 ^ k)) × (z.sets ≤ 256)) × (((1 ≤ z.ways) × (z.ways ≤ 8)) × Unit {0})))))))))
 
 header_fields : IsPart HeaderFields plain_rows header_at
 unfolding header_at caches_at plain_rows header_rows make_setup
 header_fields =
     then_known _ _ _ (λ z. tt) _ _ _ _ (row_part _ _ _ (fixed_law (codes "kmp-report" ∷ codes "1" ∷ [])) (tt, tt)) (λ title _.
     then_known _ _ _ (λ z. tt) _ _ _ _ (row_part _ _ _ (fixed_law (codes "machine" ∷ codes "plain" ∷ [])) (tt, tt)) (λ machine _.
-    then_known _ _ _ (λ z. z.cores) _ _ _ _ (row_part _ _ _ (number_law (codes "cores") 1 8 (omega arith)) (1, (omega arith, omega arith))) (λ cores _.
-    then_known _ _ _ (λ z. z.budget) _ _ _ _ (row_part _ _ _ (number_law (codes "budget") 1 100000 (omega arith)) (1, (omega arith, omega arith))) (λ budget _.
+    then_known _ _ _ (λ z. z.cores) _ _ _ _ (row_part _ _ _ (number_law (codes "cores") 1 8 (omega arith)) (1, (omega arith, omega arith)))
+    (λ cores _.
+    then_known _ _ _ (λ z. z.budget) _ _ _ _
+    (row_part _ _ _ (number_law (codes "budget") 1 100000 (omega arith)) (1, (omega arith, omega arith))) (λ budget _.
     then_known _ _ _ (λ z. z.policy) _ _ _ _ (row_part _ _ _ policy_law (policies.Fifo, tt)) (λ policy _.
     then_known _ _ _ (λ z. z.turns) _ _ _ _ (row_part _ _ _ turns_law (turns.Round, tt)) (λ turns _.
-    then_known _ _ _ (λ z. z.seed) _ _ _ _ (row_part _ _ _ (number_law (codes "seed") 0 (2 ^ 32 - 1) (omega arith)) (0, (omega arith, omega arith))) (λ seed _.
+    then_known _ _ _ (λ z. z.seed) _ _ _ _
+    (row_part _ _ _ (number_law (codes "seed") 0 (2 ^ 32 - 1) (omega arith)) (0, (omega arith, omega arith))) (λ seed _.
     then_known _ _ _ (λ z. z.sets) _ _ _ _ (row_part _ _ _ sets_law (1, ((0, refl), omega arith))) (λ sets _.
-    then_known _ _ _ (λ z. z.ways) _ _ _ _ (row_part _ _ _ (number_law (codes "ways") 1 8 (omega arith)) (1, (omega arith, omega arith))) (λ ways _.
-    last_known (record { machine = Plain; cores = cores; budget = budget; policy = policy; turns = turns; seed = seed; sets = sets; ways = ways }) _
-    (λ z k. setup_is z cores budget policy turns seed sets ways k.1.1.1.1.1.1.1.1.1 k.1.1.1.1.1.1.0 k.1.1.1.1.1.0 k.1.1.1.1.0 k.1.1.1.0 k.1.1.0 k.1.0 k.0)
+    then_known _ _ _ (λ z. z.ways) _ _ _ _ (row_part _ _ _ (number_law (codes "ways") 1 8 (omega arith)) (1, (omega arith, omega arith)))
+    (λ ways _.
+    last_known (record {
+      machine = Plain;
+      cores = cores;
+      budget = budget;
+      policy = policy;
+      turns = turns;
+      seed = seed;
+      sets = sets;
+      ways = ways;
+    }) _
+    (λ z k. setup_is z cores budget policy turns seed sets ways k.1.1.1.1.1.1.1.1.1 k.1.1.1.1.1.1.0 k.1.1.1.1.1.0 k.1.1.1.1.0 k.1.1.1.0
+    k.1.1.0 k.1.0 k.0)
     (refl, (refl, (refl, (refl, (refl, (refl, (refl, (refl, (refl, refl))))))))))))))))))
 
 header_part : IsPart IsHeader header_rows header_at
@@ -87,7 +114,31 @@ header_part =
       };
       seed = omega (arith, h.1.1.1.1.1.1.1.0.1);
     })
-    (λ z i. (i.machine, (tt, (tt, ((i.limits.some_cores, i.limits.cores), ((i.limits.some_budget, i.limits.budget), (tt, (tt, ((omega arith, omega (arith, i.seed)), ((i.limits.power_of_two, i.limits.sets), ((i.limits.some_ways, i.limits.ways), tt)))))))))))
+    (λ z i. (
+      i.machine,
+      (
+        tt,
+        (
+          tt,
+          (
+            (i.limits.some_cores, i.limits.cores),
+            (
+              (i.limits.some_budget, i.limits.budget),
+              (
+                tt,
+                (
+                  tt,
+                  (
+                    (omega arith, omega (arith, i.seed)),
+                    ((i.limits.power_of_two, i.limits.sets), ((i.limits.some_ways, i.limits.ways), tt)),
+                  ),
+                ),
+              ),
+            ),
+          ),
+        ),
+      ),
+    ))
     (λ z h. ap header_rows (make_setup_is z h.0)) header_fields
 
 -- ---- the image's rows but the last
@@ -111,7 +162,8 @@ BeginsFull n bytes = IsRowOfBytes (take 32 bytes) × IsFull n (drop 32 bytes)
 full_to : (n : ℕ) (bytes : List ℕ) → BeginsFull n bytes → IsFull (suc n) bytes
 full_to n bytes h =
     let both : take 32 bytes ++ drop 32 bytes ≡ bytes = take-append-drop 32 bytes in
-    let long : length (take 32 bytes) + length (drop 32 bytes) ≡ length bytes = sym (length-append (take 32 bytes) (drop 32 bytes)) ∙ ap length both in
+    let long : length (take 32 bytes) + length (drop 32 bytes) ≡ length bytes = sym (length-append (take 32 bytes) (drop 32 bytes))
+    ∙ ap length both in
     let first : length (take 32 bytes) ≡ 32 = h.0.0 in
     let others : length (drop 32 bytes) ≡ 32 * n = h.1.0 in
     (omega (arith, long, first, others), subst AreBytes both (all_append IsByte (take 32 bytes) (drop 32 bytes) h.0.1 h.1.1))
@@ -128,10 +180,14 @@ full_rows_part zero =
     part_as (λ bytes. bytes ≡ []) (IsFull 0) (λ bytes. []) (full_rows 0) (full_rows_at 0)
     (λ bytes is. subst (IsFull 0) (sym is) (refl, tt)) (λ bytes h. nil_from_length bytes h.0) (λ bytes h. refl) (last_part [])
 full_rows_part (suc n) =
-    part_as (BeginsFull n) (IsFull (suc n)) (full_rows (suc n)) (full_rows (suc n)) (full_rows_at (suc n)) (full_to n) (full_from n) (λ bytes h. refl)
-    (then_part IsRowOfBytes (one_line bytes_row) (row_at (bytes_row_of 32)) (take 32) (λ bytes. IsFull n (drop 32 bytes)) (λ bytes. full_rows n (drop 32 bytes))
-    (λ first rows. full_rows_at n rows >>= λ q. Ok (first ++ q.0, q.1)) (row_part _ _ _ (bytes_law 32) (replicate 32 0, (refl, all_zeros IsByte 32 (omega arith))))
-    (λ first fits. map_part (IsFull n) (full_rows n) (full_rows_at n) (λ bytes. (take 32 bytes ≡ first) × IsFull n (drop 32 bytes)) (λ bytes. full_rows n (drop 32 bytes))
+    part_as (BeginsFull n) (IsFull (suc n)) (full_rows (suc n)) (full_rows (suc n)) (full_rows_at (suc n)) (full_to n) (full_from n)
+    (λ bytes h. refl)
+    (then_part IsRowOfBytes (one_line bytes_row) (row_at (bytes_row_of 32)) (take 32) (λ bytes. IsFull n (drop 32 bytes))
+    (λ bytes. full_rows n (drop 32 bytes))
+    (λ first rows. full_rows_at n rows >>= λ q. Ok (first ++ q.0, q.1))
+    (row_part _ _ _ (bytes_law 32) (replicate 32 0, (refl, all_zeros IsByte 32 (omega arith))))
+    (λ first fits. map_part (IsFull n) (full_rows n) (full_rows_at n) (λ bytes. (take 32 bytes ≡ first) × IsFull n (drop 32 bytes))
+    (λ bytes. full_rows n (drop 32 bytes))
     (λ others. first ++ others)
     (λ others h. (take_first 32 first others fits.0, subst (IsFull n) (sym (drop_first 32 first others fits.0)) h))
     (λ others h. ap (full_rows n) (sym (drop_first 32 first others fits.0)))
@@ -163,7 +219,8 @@ make_opening_is : (z : OpeningValue) → make_opening z.setup z.size z.front ≡
 unfolding make_opening
 make_opening_is z = refl
 
-opening_is : (z : OpeningValue) (setup : Setup) (size : ℕ) (front : List ℕ) → z.setup ≡ setup → z.size ≡ size → z.front ≡ front → make_opening setup size front ≡ z
+opening_is : (z : OpeningValue) (setup : Setup) (size : ℕ) (front : List ℕ) → z.setup ≡ setup → z.size ≡ size → z.front ≡ front
+    → make_opening setup size front ≡ z
 opening_is z setup size front a b c = let all = make_opening_is z in cc
 
 -- what is known of the opening before its front is read, and the bytes of the front
@@ -176,29 +233,36 @@ front_known : (setup : Setup) (size : ℕ)
     (λ rows. full_rows_at (full_of size) rows >>= λ front. Ok (make_opening setup size front.0, front.1))
 unfolding make_opening
 front_known setup size =
-    part_as (AreFullAt setup size size) (λ z. AreFullAt setup size z.size z) (λ z. full_rows (full_of size) z.front ++ []) (λ z. full_rows (full_of z.size) z.front ++ []) _
+    part_as (AreFullAt setup size size) (λ z. AreFullAt setup size z.size z) (λ z. full_rows (full_of size) z.front ++ [])
+    (λ z. full_rows (full_of z.size) z.front ++ []) _
     (λ z h. subst (λ n. AreFullAt setup size n z) (sym h.0.0) h) (λ z h. subst (λ n. AreFullAt setup size n z) h.0.0 h)
     (λ z h. ap (λ n. full_rows (full_of n) z.front ++ []) (sym h.0.0))
     (then_known _ _ _ (λ z. z.front) _ _ _ _ (full_rows_part (full_of size)) (λ front _.
-    last_known (record { setup = setup; size = size; front = front }) _ (λ z k. opening_is z setup size front k.1.1.0 k.1.0 k.0) (refl, (refl, (refl, tt)))))
+    last_known (record { setup = setup; size = size; front = front }) _ (λ z k. opening_is z setup size front k.1.1.0 k.1.0 k.0)
+    (refl, (refl, (refl, tt)))))
 
 -- what its rows say, in their order
 abbrev OpeningFields : OpeningValue → Type 0
 OpeningFields z = Unit {0} × (IsHeader z.setup × (((1 ≤ z.size) × (z.size ≤ 2 ^ 32 - 1)) × (IsFull (full_of z.size) z.front × Unit {0})))
 
-opening_fields : IsPart OpeningFields (λ z. header_rows z.setup ++ (number_row (codes "image") z.size ∷ (full_rows (full_of z.size) z.front ++ []))) opening_at
+opening_fields : IsPart OpeningFields
+    (λ z. header_rows z.setup ++ (number_row (codes "image") z.size ∷ (full_rows (full_of z.size) z.front ++ []))) opening_at
 unfolding opening_at make_opening
 opening_fields =
     then_known _ _ _ (λ z. z.setup) _ _ _ _ header_part (λ setup _.
-    then_known _ _ _ (λ z. z.size) _ _ _ _ (row_part _ _ _ (number_law (codes "image") 1 (2 ^ 32 - 1) (omega arith)) (1, (omega arith, omega arith))) (λ size _.
+    then_known _ _ _ (λ z. z.size) _ _ _ _
+    (row_part _ _ _ (number_law (codes "image") 1 (2 ^ 32 - 1) (omega arith)) (1, (omega arith, omega arith))) (λ size _.
     front_known setup size))
 
 pub opening_part : IsPart IsOpening rows_of_opening opening_at
 opening_part =
-    part_as OpeningFields IsOpening (λ z. header_rows z.setup ++ (number_row (codes "image") z.size ∷ (full_rows (full_of z.size) z.front ++ []))) rows_of_opening opening_at
+    part_as OpeningFields IsOpening
+    (λ z. header_rows z.setup ++ (number_row (codes "image") z.size ∷ (full_rows (full_of z.size) z.front ++ []))) rows_of_opening
+    opening_at
     (λ z h. record { header = h.1.0; some = h.1.1.0.0; few = omega (arith, h.1.1.0.1); full = h.1.1.1.0.0; bytes = h.1.1.1.0.1 })
     (λ z i. (tt, (i.header, ((i.some, omega (arith, i.few)), ((i.full, i.bytes), tt)))))
-    (λ z h. ap (λ (r : Rows). header_rows z.setup ++ (number_row (codes "image") z.size ∷ r)) (append-nil (full_rows (full_of z.size) z.front)))
+    (λ z h. ap (λ (r : Rows). header_rows z.setup ++ (number_row (codes "image") z.size ∷ r))
+    (append-nil (full_rows (full_of z.size) z.front)))
     opening_fields
 
 -- ---- the opening of an image
@@ -209,10 +273,12 @@ rows_from bytes place zero = refl
 rows_from bytes place (suc n) =
     let next : 32 * place + 32 ≡ 32 * (place + 1) = omega arith in
     ap (λ (r : Rows). bytes_row_at bytes place ∷ r)
-    (rows_from bytes (place + 1) n ∙ ap (λ m. full_rows n (drop m bytes)) (sym next) ∙ ap (full_rows n) (sym (drop-drop 32 (32 * place) bytes)))
+    (rows_from bytes (place + 1) n ∙ ap (λ m. full_rows n (drop m bytes)) (sym next)
+    ∙ ap (full_rows n) (sym (drop-drop 32 (32 * place) bytes)))
 
 -- the rows of bytes in front, and of those behind them
-rows_apart : (all n more : ℕ) (front last : List ℕ) → all ≡ n + more → length front ≡ 32 * n → full_rows all (front ++ last) ≡ full_rows n front ++ full_rows more last
+rows_apart : (all n more : ℕ) (front last : List ℕ) → all ≡ n + more → length front ≡ 32 * n
+    → full_rows all (front ++ last) ≡ full_rows n front ++ full_rows more last
 rows_apart all zero more front last sum long =
     let rest : all ≡ more = omega (arith, sum) in
     ap (λ bytes. full_rows all (bytes ++ last)) (nil_from_length front long) ∙ ap (λ n. full_rows n last) rest
@@ -242,7 +308,8 @@ full_within size = omega arith
 front_length : (bytes : List ℕ) → length (front_of bytes) ≡ 32 * full_of (length bytes)
 front_length bytes = length-take-le (32 * full_of (length bytes)) bytes (full_within (length bytes))
 
-pub opening_fits : (setup : Setup) (bytes : List ℕ) → IsHeader setup → AreBytes bytes → 1 ≤ length bytes → length bytes < 2 ^ 32 → IsOpening (opening_of setup bytes)
+pub opening_fits : (setup : Setup) (bytes : List ℕ) → IsHeader setup → AreBytes bytes → 1 ≤ length bytes → length bytes < 2 ^ 32
+    → IsOpening (opening_of setup bytes)
 opening_fits setup bytes header are some few = record {
   header = header;
   some = some;
@@ -271,20 +338,24 @@ last_short : (bytes : List ℕ) → length (last_of bytes) ≤ 32
 last_short bytes = omega (arith, length-drop (32 * full_of (length bytes)) bytes)
 
 pub all_rows : (bytes : List ℕ) → 1 ≤ length bytes
-    → map (bytes_row_at bytes) (range_with_len 0 ((length bytes + 31) / 32)) ≡ full_rows (full_of (length bytes)) (front_of bytes) ++ bytes_row (last_of bytes) ∷ []
+    → map (bytes_row_at bytes) (range_with_len 0 ((length bytes + 31) / 32)) ≡ full_rows (full_of (length bytes)) (front_of bytes)
+    ++ bytes_row (last_of bytes) ∷ []
 all_rows bytes some =
     rows_at bytes ((length bytes + 31) / 32) 1 (omega (arith, some))
-    ∙ ap (λ last. full_rows (full_of (length bytes)) (front_of bytes) ++ bytes_row last ∷ []) (take_all 32 (last_of bytes) (last_short bytes))
+    ∙ ap (λ last. full_rows (full_of (length bytes)) (front_of bytes) ++ bytes_row last ∷ [])
+    (take_all 32 (last_of bytes) (last_short bytes))
 
 -- ---- bytes for an opening
 
-opening_same : (z : OpeningValue) (bytes : List ℕ) → length bytes ≡ z.size → take (32 * full_of z.size) bytes ≡ z.front → opening_of z.setup bytes ≡ z
+opening_same : (z : OpeningValue) (bytes : List ℕ) → length bytes ≡ z.size → take (32 * full_of z.size) bytes ≡ z.front
+    → opening_of z.setup bytes ≡ z
 unfolding make_opening
 opening_same z bytes long in_front =
     opening_is z z.setup (length bytes) (front_of bytes) refl (sym long) (sym (ap (λ size. take (32 * full_of size) bytes) long ∙ in_front))
 
 -- an opening is the one of its bytes with any that fill them up
-pub opening_filled : (z : OpeningValue) (last : List ℕ) → IsOpening z → length last ≡ z.size - length z.front → opening_of z.setup (z.front ++ last) ≡ z
+pub opening_filled : (z : OpeningValue) (last : List ℕ) → IsOpening z → length last ≡ z.size - length z.front
+    → opening_of z.setup (z.front ++ last) ≡ z
 opening_filled z last fits rest =
     let size : length (z.front ++ last) ≡ z.size = omega (arith, length-append z.front last, rest, fits.full, full_within z.size) in
     opening_same z (z.front ++ last) size (take_first (32 * full_of z.size) z.front last fits.full)

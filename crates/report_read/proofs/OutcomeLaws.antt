@@ -16,7 +16,8 @@ use Rattle.row_reader.proofs.ManyLaws.{part_as, AreRows, BeginsOther, each_part,
 use Rattle.report_rows.specs.declared.MemoryWord.{MemoryWord}
 use Rattle.report_rows.specs.Ends.{EndValue}
 use Rattle.report_rows.specs.Bounds.{IsHeader, IsEntry, IsItem, IsEnd, IsMemoryWord, AreMemoryWords, IsCount}
-use Rattle.report_rows.specs.Rows.{entry_row, item_row, core_rows, core_row, registers_row, memory_row, count_row, access_count_rows, bus_count_rows, wait_count_rows}
+use Rattle.report_rows.specs.Rows.{entry_row, item_row, core_rows, core_row, registers_row, memory_row, count_row, access_count_rows}
+use Rattle.report_rows.specs.Rows.{bus_count_rows, wait_count_rows}
 use Rattle.report_rows.specs.Names.{count_names}
 use Rattle.report_rows.specs.Reading.{entry_row_of, memory_row_of, count_row_of}
 use Rattle.report_rows.proofs.RowLaws.{fixed_law, entry_law, memory_law, count_law}
@@ -49,12 +50,14 @@ items_done cores bytes [] are = refl
 items_done cores bytes (Done entry ∷ items) are = ap (λ others. Done entry ∷ others) (items_done cores bytes items are.1)
 items_done cores bytes (Bus transaction ∷ items) are = absurd are.0
 
-entries_fit : (cores bytes low : ℕ) (items : List Item) → AllByRecursion (IsItem cores bytes) items → AreEntries cores bytes low (entries items)
+entries_fit : (cores bytes low : ℕ) (items : List Item) → AllByRecursion (IsItem cores bytes) items
+    → AreEntries cores bytes low (entries items)
 entries_fit cores bytes low [] are = tt
 entries_fit cores bytes low (Done entry ∷ items) are = (are.0, entries_fit cores bytes 0 items are.1)
 entries_fit cores bytes low (Bus transaction ∷ items) are = absurd are.0
 
-done_fit : (cores bytes low : ℕ) (accesses : List Entry) → AreEntries cores bytes low accesses → AllByRecursion (IsItem cores bytes) (done_of accesses)
+done_fit : (cores bytes low : ℕ) (accesses : List Entry) → AreEntries cores bytes low accesses
+    → AllByRecursion (IsItem cores bytes) (done_of accesses)
 done_fit cores bytes low [] are = tt
 done_fit cores bytes low (entry ∷ accesses) are = (are.0, done_fit cores bytes 0 accesses are.1)
 
@@ -62,22 +65,25 @@ done_rows : (accesses : List Entry) → map entry_row accesses ≡ map item_row 
 done_rows [] = refl
 done_rows (entry ∷ accesses) = ap (λ (r : Rows). entry_row entry ∷ r) (done_rows accesses)
 
-entry_rows : (cores bytes : ℕ) → 1 ≤ cores → cores ≤ 8 → bytes ≤ 2 ^ 32 → AreRows (λ low. IsEntry cores bytes) entry_row (is_named (codes "A")) (λ low. entry_row_of cores bytes)
+entry_rows : (cores bytes : ℕ) → 1 ≤ cores → cores ≤ 8 → bytes ≤ 2 ^ 32
+    → AreRows (λ low. IsEntry cores bytes) entry_row (is_named (codes "A")) (λ low. entry_row_of cores bytes)
 entry_rows cores bytes some few small = record {
   found = λ low row x e. (entry_law cores bytes some few small).found row x e;
   again = λ low x fits. (entry_law cores bytes some few small).again x fits;
-  marked = λ low x fits. refl;
+  pass = λ low x fits. refl;
 }
 
 -- the rows of some cores begin with no access
-cores_other : (budget cores : ℕ) (ended : List EndValue) (rest : Rows) → 1 ≤ cores → AreEnds budget cores ended → BeginsOther (is_named (codes "A")) (rows_of_cores 0 ended ++ rest)
+cores_other : (budget cores : ℕ) (ended : List EndValue) (rest : Rows) → 1 ≤ cores → AreEnds budget cores ended
+    → BeginsOther (is_named (codes "A")) (rows_of_cores 0 ended ++ rest)
 unfolding core_rows
 cores_other budget cores [] rest some h = absurd (omega (arith, h.0))
 cores_other budget cores (z ∷ ended) rest some h = record {
   first = core_row 0 z;
-  others = (registers_row 0 0 z.state.regs ∷ registers_row 0 8 z.state.regs ∷ registers_row 0 16 z.state.regs ∷ registers_row 0 24 z.state.regs ∷ rows_of_cores 1 ended) ++ rest;
+  others = (registers_row 0 0 z.state.regs ∷ registers_row 0 8 z.state.regs ∷ registers_row 0 16 z.state.regs
+      ∷ registers_row 0 24 z.state.regs ∷ rows_of_cores 1 ended) ++ rest;
   are = refl;
-  unmarked = refl;
+  fails = refl;
 }
 
 -- ---- memory words
@@ -98,7 +104,7 @@ word_rows : (bytes : ℕ) → bytes ≤ 2 ^ 32 → AreRows (IsMemoryWord bytes) 
 word_rows bytes small = record {
   found = λ low row x e. (memory_law bytes low small).found row x e;
   again = λ low x fits. (memory_law bytes low small).again x fits;
-  marked = λ low x fits. refl;
+  pass = λ low x fits. refl;
 }
 
 -- the rows of the counts begin with no memory word
@@ -108,7 +114,7 @@ counts_other counts rest = record {
   first = count_row (codes "retired") (slice_index counts 0);
   others = _;
   are = refl;
-  unmarked = refl;
+  fails = refl;
 }
 
 -- ---- counts
@@ -126,10 +132,12 @@ rows_by_place (name ∷ names) number = count_row name (number 0) ∷ rows_by_pl
 abbrev one_count : List ℕ → ℕ → Rows
 one_count name n = one_line (count_row name) n
 
-counts_by_place : (names : List (List ℕ)) (counts : List ℕ) → length counts ≡ length names → each_spell one_count names counts ≡ rows_by_place names (slice_index counts)
+counts_by_place : (names : List (List ℕ)) (counts : List ℕ) → length counts ≡ length names
+    → each_spell one_count names counts ≡ rows_by_place names (slice_index counts)
 counts_by_place [] counts long = refl
 counts_by_place (name ∷ names) [] long = absurd (omega (arith, long))
-counts_by_place (name ∷ names) (n ∷ counts) long = ap (λ (r : Rows). count_row name n ∷ r) (counts_by_place names counts (omega (arith, long)))
+counts_by_place (name ∷ names) (n ∷ counts) long =
+    ap (λ (r : Rows). count_row name n ∷ r) (counts_by_place names counts (omega (arith, long)))
 
 counts_rows : (counts : List ℕ) → AreCounts counts → each_spell one_count count_names counts ≡ count_rows counts
 unfolding access_count_rows bus_count_rows wait_count_rows
@@ -140,7 +148,8 @@ counts_part =
     part_as (EachFits (λ (name : List ℕ). IsCount) count_names) AreCounts (each_spell one_count count_names) count_rows counts_at
     (λ counts h. all_each IsCount count_names counts h) (λ counts h. each_all IsCount count_names counts h.0 h.1)
     (λ counts h. counts_rows counts (all_each IsCount count_names counts h))
-    (each_part (λ name. IsCount) one_count (λ name. row_at (count_row_of name)) (λ name. row_part _ _ _ (count_law name) (0, omega arith)) count_names)
+    (each_part (λ name. IsCount) one_count (λ name. row_at (count_row_of name)) (λ name. row_part _ _ _ (count_law name) (0, omega arith))
+    count_names)
 
 -- ---- all behind the image
 
@@ -166,14 +175,17 @@ abbrev pub rows_behind : ReportValue → Rows
 rows_behind z = map item_row z.items ++ (rows_of_cores 0 z.cores ++ (map memory_row z.words ++ (count_rows z.counts ++ end_row ∷ [])))
 
 make_report : Setup → ImageValue → List Item → List EndValue → List MemoryWord → List ℕ → ReportValue
-make_report setup image items cores words counts = record { setup = setup; image = image; items = items; cores = cores; words = words; counts = counts }
+make_report setup image items cores words counts =
+    record { setup = setup; image = image; items = items; cores = cores; words = words; counts = counts }
 
 make_report_is : (z : ReportValue) → make_report z.setup z.image z.items z.cores z.words z.counts ≡ z
 unfolding make_report
 make_report_is z = refl
 
-report_is : (z : ReportValue) (setup : Setup) (image : ImageValue) (accesses : List Entry) (cores : List EndValue) (words : List MemoryWord) (counts : List ℕ)
-    → AreDone z.items → z.setup ≡ setup → z.image ≡ image → entries z.items ≡ accesses → z.cores ≡ cores → z.words ≡ words → z.counts ≡ counts
+report_is : (z : ReportValue) (setup : Setup) (image : ImageValue) (accesses : List Entry) (cores : List EndValue) (words : List MemoryWord)
+    (counts : List ℕ)
+    → AreDone z.items → z.setup ≡ setup → z.image ≡ image → entries z.items ≡ accesses → z.cores ≡ cores → z.words ≡ words
+    → z.counts ≡ counts
     → make_report setup image (done_of accesses) cores words counts ≡ z
 report_is z setup image accesses cores words counts done a b c d e f =
     let all = make_report_is z in
@@ -194,33 +206,40 @@ OutcomeFields setup image z =
 
 -- the rows behind the image as they are read
 abbrev rows_read : ReportValue → Rows
-rows_read z = map entry_row (entries z.items) ++ (rows_of_cores 0 z.cores ++ (map memory_row z.words ++ (count_rows z.counts ++ ((end_row ∷ []) ++ []))))
+rows_read z = map entry_row (entries z.items)
+    ++ (rows_of_cores 0 z.cores ++ (map memory_row z.words ++ (count_rows z.counts ++ ((end_row ∷ []) ++ []))))
 
-outcome_fields : (setup : Setup) (image : ImageValue) → 1 ≤ setup.cores → setup.cores ≤ 8 → setup.budget < 2 ^ 64 → memory_bytes image ≤ 2 ^ 32
+outcome_fields : (setup : Setup) (image : ImageValue) → 1 ≤ setup.cores → setup.cores ≤ 8 → setup.budget < 2 ^ 64
+    → memory_bytes image ≤ 2 ^ 32
     → IsPart (λ z. IsOf setup image z × OutcomeFields setup image z) rows_read (outcome_at setup image)
 unfolding outcome_at make_report
 outcome_fields setup image some few budget small =
     many_known _ _ _ _ _ 0 (λ z. entries z.items) _ _ _ _ (entry_rows setup.cores (memory_bytes image) some few small)
-    (λ z h. cores_other setup.budget setup.cores z.cores (map memory_row z.words ++ (count_rows z.counts ++ ((end_row ∷ []) ++ []))) some h.0) (λ accesses _.
+    (λ z h. cores_other setup.budget setup.cores z.cores (map memory_row z.words ++ (count_rows z.counts ++ ((end_row ∷ []) ++ []))) some
+    h.0) (λ accesses _.
     then_known _ _ _ (λ z. z.cores) _ _ _ _ (ends_part setup.budget setup.cores budget) (λ cores _.
     many_known _ _ _ _ _ (4 * length image.code) (λ z. z.words) _ _ _ _ (word_rows (memory_bytes image) small)
     (λ z h. counts_other z.counts ((end_row ∷ []) ++ [])) (λ words _.
     then_known _ _ _ (λ z. z.counts) _ _ _ _ counts_part (λ counts _.
     then_known _ _ _ (λ z. tt) _ _ _ _ (row_part _ _ _ (fixed_law end_row) (tt, tt)) (λ end _.
     last_known (record { setup = setup; image = image; items = done_of accesses; cores = cores; words = words; counts = counts }) _
-    (λ z k. report_is z setup image accesses cores words counts k.1.1.1.1.1.0 k.1.1.1.1.1.1.0 k.1.1.1.1.1.1.1 k.1.1.1.1.0 k.1.1.1.0 k.1.1.0 k.1.0)
+    (λ z k. report_is z setup image accesses cores words counts k.1.1.1.1.1.0 k.1.1.1.1.1.1.0 k.1.1.1.1.1.1.1 k.1.1.1.1.0 k.1.1.1.0 k.1.1.0
+    k.1.0)
     (refl, (refl, (refl, (refl, (entries_done accesses, (ap done_of (entries_done accesses), (refl, refl))))))))))))
 
-outcome_to : (setup : Setup) (image : ImageValue) (z : ReportValue) → IsOf setup image z × OutcomeFields setup image z → IsOutcomeOf setup image z
+outcome_to : (setup : Setup) (image : ImageValue) (z : ReportValue) → IsOf setup image z × OutcomeFields setup image z
+    → IsOutcomeOf setup image z
 outcome_to setup image z h =
     let bytes = memory_bytes image in
-    let items : AllByRecursion (IsItem setup.cores bytes) z.items = subst (AllByRecursion (IsItem setup.cores bytes)) h.0.0 (done_fit setup.cores bytes 0 (entries z.items) h.1.0) in
+    let items : AllByRecursion (IsItem setup.cores bytes) z.items =
+    subst (AllByRecursion (IsItem setup.cores bytes)) h.0.0 (done_fit setup.cores bytes 0 (entries z.items) h.1.0) in
     let words : AreMemoryWords bytes (4 * length image.code) z.words = words_to bytes (4 * length image.code) z.words h.1.1.1.0 in
     let s = sym h.0.1.0 in
     let i = sym h.0.1.1 in (
       h.0.1,
       record {
-        items = subst (λ (m : ImageValue). AllByRecursion (IsItem z.setup.cores (memory_bytes m)) z.items) i (subst (λ (t : Setup). AllByRecursion (IsItem t.cores bytes) z.items) s items);
+        items = subst (λ (m : ImageValue). AllByRecursion (IsItem z.setup.cores (memory_bytes m)) z.items) i
+            (subst (λ (t : Setup). AllByRecursion (IsItem t.cores bytes) z.items) s items);
         cores = h.1.1.0.0 ∙ ap (λ (t : Setup). t.cores) s;
         ends = subst (λ (t : Setup). AllByRecursion (IsEnd t.budget) z.cores) s h.1.1.0.1;
         words = subst (λ (m : ImageValue). AreMemoryWords (memory_bytes m) (4 * length m.code) z.words) i words;
@@ -229,18 +248,26 @@ outcome_to setup image z h =
       },
     )
 
-outcome_from : (setup : Setup) (image : ImageValue) (z : ReportValue) → IsOutcomeOf setup image z → IsOf setup image z × OutcomeFields setup image z
+outcome_from : (setup : Setup) (image : ImageValue) (z : ReportValue) → IsOutcomeOf setup image z → IsOf setup image z
+    × OutcomeFields setup image z
 outcome_from setup image z h =
     let bytes = memory_bytes z.image in
     let o = h.1 in
-    let fields : OutcomeFields z.setup z.image z =
-    (entries_fit z.setup.cores bytes 0 z.items o.items, ((o.cores, o.ends), (words_from bytes (4 * length z.image.code) z.words o.words, ((o.thirteen, o.counts), (tt, tt))))) in
-    ((items_done z.setup.cores bytes z.items o.items, h.0), subst (λ (m : ImageValue). OutcomeFields setup m z) h.0.1 (subst (λ (t : Setup). OutcomeFields t z.image z) h.0.0 fields))
+    let fields : OutcomeFields z.setup z.image z = (
+      entries_fit z.setup.cores bytes 0 z.items o.items,
+      ((o.cores, o.ends), (words_from bytes (4 * length z.image.code) z.words o.words, ((o.thirteen, o.counts), (tt, tt)))),
+    ) in (
+      (items_done z.setup.cores bytes z.items o.items, h.0),
+      subst (λ (m : ImageValue). OutcomeFields setup m z) h.0.1 (subst (λ (t : Setup). OutcomeFields t z.image z) h.0.0 fields),
+    )
 
 outcome_rows_are : (z : ReportValue) → AreDone z.items → rows_read z ≡ rows_behind z
-outcome_rows_are z done = ap (λ (r : Rows). r ++ (rows_of_cores 0 z.cores ++ (map memory_row z.words ++ (count_rows z.counts ++ end_row ∷ [])))) (done_rows (entries z.items) ∙ ap (map item_row) done)
+outcome_rows_are z done = ap (λ (r : Rows). r
+    ++ (rows_of_cores 0 z.cores ++ (map memory_row z.words ++ (count_rows z.counts ++ end_row ∷ []))))
+    (done_rows (entries z.items) ∙ ap (map item_row) done)
 
-pub outcome_part : (setup : Setup) (image : ImageValue) → IsHeader setup → memory_bytes image ≤ 2 ^ 32 → IsPart (IsOutcomeOf setup image) rows_behind (outcome_at setup image)
+pub outcome_part : (setup : Setup) (image : ImageValue) → IsHeader setup → memory_bytes image ≤ 2 ^ 32
+    → IsPart (IsOutcomeOf setup image) rows_behind (outcome_at setup image)
 outcome_part setup image header small =
     let few : setup.cores ≤ 8 = header.limits.cores in
     let most : setup.budget ≤ 100000 = header.limits.budget in

@@ -10,7 +10,8 @@ use Rattle.report_rows.specs.declared.MemoryWord.{MemoryWord}
 use Rattle.report_rows.specs.Ends.{EndValue}
 use Rattle.report_rows.specs.Bounds.{IsItem, IsEnd}
 use Rattle.report_rows.specs.Rows.{bytes_row_at, item_row, memory_row, core_rows, header_rows}
-use Rattle.report_rows.proofs.PlainRowLaws.{header_plain, number_row_plain, bytes_row_plain, item_plain, memory_plain, core_rows_plain, count_rows_plain}
+use Rattle.report_rows.proofs.PlainRowLaws.{header_plain, number_row_plain, bytes_row_plain, item_plain, memory_plain, core_rows_plain}
+use Rattle.report_rows.proofs.PlainRowLaws.{count_rows_plain}
 use Rattle.report_text.specs.Report.{ReportValue}
 use Rattle.report_text.specs.Text.{image_rows, rows_of_cores, count_rows, run_rows, outcome_rows, report_rows}
 use Rattle.report_text.specs.Form.{IsReport}
@@ -25,14 +26,17 @@ bytes_plain_at bytes (place ∷ places) = (bytes_row_plain _, bytes_plain_at byt
 image_plain : (image : ImageValue) → length (image_bytes image) < 2 ^ 32 → ArePlain (image_rows image)
 unfolding image_rows
 image_plain image few =
-    let bytes = image_bytes image in
-    (number_row_plain (codes "image") (length bytes) (plain_by_test (codes "image") refl) (omega (arith, few)), bytes_plain_at bytes (range_with_len 0 ((length bytes + 31) / 32)))
+    let bytes = image_bytes image in (
+      number_row_plain (codes "image") (length bytes) (plain_by_test (codes "image") refl) (omega (arith, few)),
+      bytes_plain_at bytes (range_with_len 0 ((length bytes + 31) / 32)),
+    )
 
 items_plain : (cores bytes : ℕ) (items : List Item) → cores ≤ 8 → AllByRecursion (IsItem cores bytes) items → ArePlain (map item_row items)
 items_plain cores bytes [] few are = tt
 items_plain cores bytes (item ∷ items) few are = (item_plain cores bytes item few are.0, items_plain cores bytes items few are.1)
 
-cores_plain : (budget first : ℕ) (cores : List EndValue) → budget < 2 ^ 64 → first + length cores < 2 ^ 64 → AllByRecursion (IsEnd budget) cores → ArePlain (rows_of_cores first cores)
+cores_plain : (budget first : ℕ) (cores : List EndValue) → budget < 2 ^ 64 → first + length cores < 2 ^ 64
+    → AllByRecursion (IsEnd budget) cores → ArePlain (rows_of_cores first cores)
 cores_plain budget first [] small few are = tt
 cores_plain budget first (ended ∷ cores) small few are =
     all_append IsPlainRow (core_rows first ended) (rows_of_cores (first + 1) cores)
@@ -47,10 +51,13 @@ unfolding report_rows
 report_plain r i =
     let few : r.setup.cores ≤ 8 = i.header.limits.cores in
     let most : r.setup.budget ≤ 100000 = i.header.limits.budget in
-    let header = all_append IsPlainRow (header_rows r.setup) (image_rows r.image) (header_plain r.setup i.header) (image_plain r.image i.image_size) in
-    let run = all_append IsPlainRow (header_rows r.setup ++ image_rows r.image) (map item_row r.items) header (items_plain r.setup.cores (memory_bytes r.image) r.items few i.items) in
+    let header = all_append IsPlainRow (header_rows r.setup) (image_rows r.image) (header_plain r.setup i.header)
+    (image_plain r.image i.image_size) in
+    let run = all_append IsPlainRow (header_rows r.setup ++ image_rows r.image) (map item_row r.items) header
+    (items_plain r.setup.cores (memory_bytes r.image) r.items few i.items) in
     let cores = cores_plain r.setup.budget 0 r.cores (omega (arith, most)) (omega (arith, i.cores, few)) i.ends in
     let words = all_append IsPlainRow (rows_of_cores 0 r.cores) (map memory_row r.words) cores (words_plain r.words) in
-    let outcome = all_append IsPlainRow (rows_of_cores 0 r.cores ++ map memory_row r.words) (count_rows r.counts) words (count_rows_plain r.counts i.counts) in
+    let outcome = all_append IsPlainRow (rows_of_cores 0 r.cores ++ map memory_row r.words) (count_rows r.counts) words
+    (count_rows_plain r.counts i.counts) in
     all_append IsPlainRow (run_rows r ++ outcome_rows r) ((codes "end" ∷ []) ∷ [])
     (all_append IsPlainRow (run_rows r) (outcome_rows r) run outcome) ((plain_by_test (codes "end") refl, tt), tt)

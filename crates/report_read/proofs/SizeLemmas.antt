@@ -42,10 +42,16 @@ pieces_size (piece ∷ next ∷ pieces) =
 pub text_size : (text : List ℕ) → size_of_rows (rows_of text) ≤ length text
 unfolding rows_of
 text_size text =
-    omega (arith, pieces_size (slice_split is_feed text), join_size 10 (slice_split is_feed text), ap length (join_with_byte-slice_split 10 text))
+    omega (
+      arith,
+      pieces_size (slice_split is_feed text),
+      join_size 10 (slice_split is_feed text),
+      ap length (join_with_byte-slice_split 10 text),
+    )
 
 -- a row of bytes has two digits for each of them
-pub bytes_size : (size : ℕ) (rows rest : Rows) (bytes : List ℕ) → row_at (bytes_row_of size) rows ≡ Ok (bytes, rest) → (length bytes ≡ size) × (2 * length bytes + size_of_rows rest ≤ size_of_rows rows)
+pub bytes_size : (size : ℕ) (rows rest : Rows) (bytes : List ℕ) → row_at (bytes_row_of size) rows ≡ Ok (bytes, rest) → (length bytes ≡ size)
+    × (2 * length bytes + size_of_rows rest ≤ size_of_rows rows)
 bytes_size size rows rest bytes e =
     let read = row_takes _ bytes_row (bytes_row_of size) (bytes_law size) rows rest bytes e in
     (read.0.0, omega (arith, ap size_of_rows read.1, length-encode_with lower_digits bytes))

@@ -1,14 +1,16 @@
 -- What is read is a report, what is a report is read, and what isn't read doesn't go on as one where reading is stuck.
-use Rattle.std.proofs.Common.{◌≡◌, ℕ, ◌^◌, ◌≤◌, List, [], ◌∷◌, ◌++◌, length, map, Option, None, Result, Ok, Err, refl, sym, ap, subst, ◌∙◌, append_assoc, arith, inl, inr}
+use Rattle.std.proofs.Common.{◌≡◌, ℕ, ◌^◌, ◌≤◌, List, [], ◌∷◌, ◌++◌, length, map, Option, None, Result, Ok, Err, refl, sym, ap, subst, ◌∙◌}
+use Rattle.std.proofs.Common.{append_assoc, arith, inl, inr}
 use Rattle.std.specs.Prelude.{codes}
 use Rattle.std.proofs.lemmas.List.{append-nil}
 use Rattle.image_file.specs.Value.{ImageValue, image_bytes, memory_bytes}
 use Rattle.image_file.specs.Reading.{image_meaning}
 use Rattle.row_reader.specs.Rows.{Row, Rows, rows_of}
 use Rattle.kmp_base.specs.Bind.{◌>>=◌}
+use Rattle.kmp_base.proofs.ReadingLaws.{bind_ok, bind_err}
 use Rattle.row_reader.specs.Reading.{chosen, row_at}
 use Rattle.row_reader.specs.Starts.{Stops}
-use Rattle.row_reader.proofs.PartLaws.{row_takes, ok_is, err_is, bind_ok, bind_err, chosen_err, none_some, head_is, tail_is}
+use Rattle.row_reader.proofs.PartLaws.{row_takes, ok_is, err_is, chosen_err, none_some, head_is, tail_is}
 use Rattle.row_reader.proofs.FieldLaws.{some_is}
 use Rattle.row_reader.proofs.TextLaws.{text_is, rows_are}
 use Rattle.report_rows.specs.Bounds.{IsHeader}
@@ -18,7 +20,8 @@ use Rattle.report_text.specs.Text.{rows_of_cores, count_rows, image_rows, report
 use Rattle.report_text.specs.Form.{IsReport}
 use Rattle.report_read.specs.BadRow.{BeginsReport, BeginsOpening, MayStand}
 use Rattle.report_read.specs.Reading.{OpeningValue, opening_at, image_row_of, outcome_at, report_at, whole, read_of}
-use Rattle.report_read.proofs.OpeningLaws.{full_of, full_rows, IsOpening, rows_of_opening, front_of, opening_of, opening_part, opening_fits, opening_rows_are, all_rows, begins_opening}
+use Rattle.report_read.proofs.OpeningLaws.{full_of, full_rows, IsOpening, rows_of_opening, front_of, opening_of, opening_part, opening_fits}
+use Rattle.report_read.proofs.OpeningLaws.{opening_rows_are, all_rows, begins_opening}
 use Rattle.report_text.proofs.ImageLaws.{image_bytes_are}
 use Rattle.report_read.proofs.LastRowLaws.{some_bytes, memory_small, IsImageOf, last_row, image_law}
 use Rattle.report_read.proofs.PlainText.{report_plain}
@@ -36,16 +39,21 @@ regroup : (header size front last items cores words counts end rest : Rows)
 regroup header size front last items cores words counts end rest = simp append_assoc
 
 image_rows_are : (image : ImageValue) → image_rows image
-    ≡ (number_row (codes "image") (length (image_bytes image)) ∷ []) ++ (full_rows (full_of (length (image_bytes image))) (front_of (image_bytes image)) ++ last_row image ∷ [])
+    ≡ (number_row (codes "image") (length (image_bytes image)) ∷ [])
+    ++ (full_rows (full_of (length (image_bytes image))) (front_of (image_bytes image)) ++ last_row image ∷ [])
 unfolding image_rows
-image_rows_are image = ap (λ (r : Rows). number_row (codes "image") (length (image_bytes image)) ∷ r) (all_rows (image_bytes image) (some_bytes image))
+image_rows_are image = ap (λ (r : Rows). number_row (codes "image") (length (image_bytes image)) ∷ r)
+    (all_rows (image_bytes image) (some_bytes image))
 
 -- the rows of a report: its opening, the last row of the image, and what follows
-parts_are : (r : ReportValue) (rest : Rows) → report_rows r ++ rest ≡ rows_of_opening (opening_in r) ++ (last_row r.image ∷ (rows_behind r ++ rest))
+parts_are : (r : ReportValue) (rest : Rows) → report_rows r ++ rest ≡ rows_of_opening (opening_in r)
+    ++ (last_row r.image ∷ (rows_behind r ++ rest))
 unfolding report_rows
 parts_are r rest =
-    ap (λ (image : Rows). (((header_rows r.setup ++ image ++ map item_row r.items) ++ (rows_of_cores 0 r.cores ++ map memory_row r.words ++ count_rows r.counts)) ++ end_row ∷ []) ++ rest) (image_rows_are r.image)
-    ∙ regroup (header_rows r.setup) (number_row (codes "image") (length (image_bytes r.image)) ∷ []) (full_rows (full_of (length (image_bytes r.image))) (front_of (image_bytes r.image))) (last_row r.image ∷ [])
+    ap (λ (image : Rows). (((header_rows r.setup ++ image ++ map item_row r.items)
+    ++ (rows_of_cores 0 r.cores ++ map memory_row r.words ++ count_rows r.counts)) ++ end_row ∷ []) ++ rest) (image_rows_are r.image)
+    ∙ regroup (header_rows r.setup) (number_row (codes "image") (length (image_bytes r.image)) ∷ [])
+    (full_rows (full_of (length (image_bytes r.image))) (front_of (image_bytes r.image))) (last_row r.image ∷ [])
     (map item_row r.items) (rows_of_cores 0 r.cores) (map memory_row r.words) (count_rows r.counts) (end_row ∷ []) rest
 
 all_parts_are : (r : ReportValue) → report_rows r ≡ rows_of_opening (opening_in r) ++ (last_row r.image ∷ (rows_behind r ++ []))
@@ -66,11 +74,13 @@ record IsMade (o : OpeningValue) (image : ImageValue) (r : ReportValue) : Type 0
   is : IsReport r
   opening : opening_in r ≡ o
 
-made_of : (o : OpeningValue) (image : ImageValue) (r : ReportValue) → IsOpening o → IsImageOf o image → IsOutcomeOf o.setup image r → IsMade o image r
+made_of : (o : OpeningValue) (image : ImageValue) (r : ReportValue) → IsOpening o → IsImageOf o image → IsOutcomeOf o.setup image r
+    → IsMade o image r
 made_of o image r opening good h =
     let setup_is = h.0.0 in
     let image_is = h.0.1 in
-    let same : opening_in r ≡ o = ap (λ setup. opening_of setup (image_bytes r.image)) setup_is ∙ ap (λ m. opening_of o.setup (image_bytes m)) image_is ∙ good.1 in
+    let same : opening_in r ≡ o = ap (λ setup. opening_of setup (image_bytes r.image)) setup_is
+    ∙ ap (λ m. opening_of o.setup (image_bytes m)) image_is ∙ good.1 in
     let size : length (image_bytes r.image) ≡ o.size = ap (λ z. z.size) same in
     record {
       is = record {
@@ -202,11 +212,18 @@ stuck_in_opening rows stuck s = record {
       there = last_row b.report.image ∷ (rows_behind b.report ++ []);
       are = b.are ∙ all_parts_are b.report;
     }
-    | inr b ↦ record { value = begun (s.front ++ row ∷ []) b; fits = begun_fits (s.front ++ row ∷ []) b; here = b.rest; there = []; are = begun_are (s.front ++ row ∷ []) b }
+    | inr b ↦ record {
+      value = begun (s.front ++ row ∷ []) b;
+      fits = begun_fits (s.front ++ row ∷ []) b;
+      here = b.rest;
+      there = [];
+      are = begun_are (s.front ++ row ∷ []) b;
+    }
   ]);
 }
 
-stuck_at_image : (rows stuck later : Rows) (o : OpeningValue) → IsOpening o → rows ≡ rows_of_opening o ++ later → row_at (image_at o) later ≡ Err stuck → Halts rows stuck
+stuck_at_image : (rows stuck later : Rows) (o : OpeningValue) → IsOpening o → rows ≡ rows_of_opening o ++ later
+    → row_at (image_at o) later ≡ Err stuck → Halts rows stuck
 stuck_at_image rows stuck later o fits are e =
     let l = image_err o later stuck e in
     record {
@@ -224,13 +241,15 @@ stuck_at_image rows stuck later o fits are e =
     }
 
 stuck_behind : (rows stuck later outcome : Rows) (o : OpeningValue) (image : ImageValue) → IsOpening o → IsImageOf o image
-    → rows ≡ rows_of_opening o ++ later → later ≡ last_row image ∷ outcome → Stops (IsOutcomeOf o.setup image) rows_behind outcome stuck → Halts rows stuck
+    → rows ≡ rows_of_opening o ++ later → later ≡ last_row image ∷ outcome → Stops (IsOutcomeOf o.setup image) rows_behind outcome stuck
+    → Halts rows stuck
 stuck_behind rows stuck later outcome o image fits good are later_are s =
     let r = s.begins.value in
     let m = made_of o image r fits good s.begins.fits in
     record {
       front = rows_of_opening o ++ last_row image ∷ s.front;
-      are = are ∙ ap (λ (x : Rows). rows_of_opening o ++ x) (later_are ∙ ap (λ (x : Rows). last_row image ∷ x) s.are) ∙ sym (append_assoc (rows_of_opening o) (last_row image ∷ s.front) stuck);
+      are = are ∙ ap (λ (x : Rows). rows_of_opening o ++ x) (later_are ∙ ap (λ (x : Rows). last_row image ∷ x) s.are)
+          ∙ sym (append_assoc (rows_of_opening o) (last_row image ∷ s.front) stuck);
       before = inl (record {
         report = r;
         is = m.is;
@@ -242,14 +261,16 @@ stuck_behind rows stuck later outcome o image fits good are later_are s =
             ∙ sym (all_parts_are r);
       });
       here = λ row more is stands.
-          let whole_front : (rows_of_opening o ++ last_row image ∷ s.front) ++ row ∷ [] ≡ rows_of_opening o ++ last_row image ∷ (s.front ++ row ∷ []) = append_assoc (rows_of_opening o) (last_row image ∷ s.front) (row ∷ []) in
+          let whole_front : (rows_of_opening o ++ last_row image ∷ s.front) ++ row ∷ [] ≡ rows_of_opening o ++ last_row image
+          ∷ (s.front ++ row ∷ []) = append_assoc (rows_of_opening o) (last_row image ∷ s.front) (row ∷ []) in
           elim (subst MayStand whole_front stands) [
             | inl b ↦
                 let p = behind o (last_row image ∷ (s.front ++ row ∷ [])) b fits in
                 let others = rows_behind b.report ++ [] in
                 let first : last_row image ≡ last_row b.report.image = head_is _ _ ((s.front ++ row ∷ []) ++ b.rest) others p.1 in
                 let same : image ≡ b.report.image = some_is image b.report.image
-                (sym ((image_law o fits).again image good) ∙ ap (image_at o) first ∙ (image_law o fits).again b.report.image (image_in o b.report b.is p.0)) in
+                (sym ((image_law o fits).again image good) ∙ ap (image_at o) first
+                ∙ (image_law o fits).again b.report.image (image_in o b.report b.is p.0)) in
                 s.ends row more is (record {
                   value = b.report;
                   fits = ((sym (ap (λ z. z.setup) p.0), sym same), outcome_in b.report b.is);
@@ -272,9 +293,11 @@ report_halts rows stuck e =
           elim (bind_err (row_at (image_at z) opened.0.1) (λ q. outcome_at z.setup q.0 q.1) stuck opened.2) [
             | inl at_image ↦ stuck_at_image rows stuck opened.0.1 z o.0 o.1 at_image
             | inr behind_it ↦
-                let l = row_takes (IsImageOf z) last_row (image_at z) (image_law z o.0) opened.0.1 behind_it.0.1 behind_it.0.0 behind_it.1 in
+                let l = row_takes (IsImageOf z) last_row (image_at z) (image_law z o.0) opened.0.1 behind_it.0.1 behind_it.0.0 behind_it.1
+                in
                 stuck_behind rows stuck opened.0.1 behind_it.0.1 z behind_it.0.0 o.0 l.0 o.1 l.1
-                ((outcome_part z.setup behind_it.0.0 o.0.header (small_memory z behind_it.0.0 o.0 l.0)).stops behind_it.0.1 stuck behind_it.2)
+                ((outcome_part z.setup behind_it.0.0 o.0.header (small_memory z behind_it.0.0 o.0 l.0)).stops behind_it.0.1 stuck
+                behind_it.2)
           ]
     ]
 
@@ -311,11 +334,13 @@ not_longer r row i stands = elim stands [
   | inl b ↦
       let mine = report_again r (row ∷ b.rest) i in
       let theirs = report_again b.report [] b.is in
-      let same : report_rows r ++ (row ∷ b.rest) ≡ report_rows b.report ++ [] = sym (append_assoc (report_rows r) (row ∷ []) b.rest) ∙ b.are ∙ sym (append-nil (report_rows b.report)) in
+      let same : report_rows r ++ (row ∷ b.rest) ≡ report_rows b.report ++ [] = sym (append_assoc (report_rows r) (row ∷ []) b.rest) ∙ b.are
+      ∙ sym (append-nil (report_rows b.report)) in
       let both = ok_is (r, row ∷ b.rest) (b.report, []) (sym mine ∙ ap report_at same ∙ theirs) in
       absurd (let no = ap (λ q. q.1) both in cc)
   | inr b ↦
-      not_behind (opening_in r) (last_row r.image) (rows_behind r ++ row ∷ []) (subst BeginsOpening (parts_are r (row ∷ [])) b) (opening_in_fits r i)
+      not_behind (opening_in r) (last_row r.image) (rows_behind r ++ row ∷ []) (subst BeginsOpening (parts_are r (row ∷ [])) b)
+      (opening_in_fits r i)
 ]
 
 -- The rows are no report. The stuck ones begin with the first row that doesn't go on as one, or are none where rows are

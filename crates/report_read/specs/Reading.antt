@@ -1,6 +1,7 @@
 -- What is read of the rows of a report, from the front: a value and the rows behind it, or the rows at which reading is
 -- stuck.
-use Rattle.std.specs.Prelude.{ℕ, zero, suc, ◌+◌, ◌-◌, ◌*◌, ◌/◌, ◌^◌, List, [], ◌∷◌, ◌++◌, length, map, codes, Option, Some, None, Result, Ok, Err}
+use Rattle.std.specs.Prelude.{ℕ, zero, suc, ◌+◌, ◌-◌, ◌*◌, ◌/◌, ◌^◌, List, [], ◌∷◌, ◌++◌, length, map, codes, Option, Some, None, Result}
+use Rattle.std.specs.Prelude.{Ok, Err}
 use Rattle.std.specs.List.{range_with_len}
 use Rattle.kmp_base.specs.declared.setup.Setup.{Setup}
 use Rattle.kmp_base.specs.declared.setup.MachineKind.TheVariants.{Plain}
@@ -17,7 +18,8 @@ use Rattle.report_rows.specs.declared.MemoryWord.{MemoryWord}
 use Rattle.report_rows.specs.declared.read.EndRow.{EndRow}
 use Rattle.report_rows.specs.Ends.{EndValue}
 use Rattle.report_rows.specs.Names.{count_names}
-use Rattle.report_rows.specs.Reading.{fixed_of, number_row_of, sets_row_of, policy_row_of, turns_row_of, bytes_row_of, entry_row_of, end_row_of, registers_row_of, memory_row_of, count_row_of}
+use Rattle.report_rows.specs.Reading.{fixed_of, number_row_of, sets_row_of, policy_row_of, turns_row_of, bytes_row_of, entry_row_of}
+use Rattle.report_rows.specs.Reading.{end_row_of, registers_row_of, memory_row_of, count_row_of}
 use Rattle.report_text.specs.Report.{ReportValue}
 
 -- ---- the header
@@ -28,7 +30,19 @@ caches_at cores budget policy turns rows = do
   seed ← row_at (number_row_of (codes "seed") 0 (2 ^ 32 - 1)) rows
   sets ← row_at sets_row_of seed.1
   ways ← row_at (number_row_of (codes "ways") 1 8) sets.1
-  Ok (record { machine = Plain; cores = cores; budget = budget; policy = policy; turns = turns; seed = seed.0; sets = sets.0; ways = ways.0 }, ways.1)
+  Ok (
+    record {
+      machine = Plain;
+      cores = cores;
+      budget = budget;
+      policy = policy;
+      turns = turns;
+      seed = seed.0;
+      sets = sets.0;
+      ways = ways.0;
+    },
+    ways.1,
+  )
 
 unfoldable pub header_at : Rows → Result (Setup × Rows) Rows
 header_at rows = do
@@ -123,7 +137,17 @@ outcome_at setup image rows = do
   words ← words_at (memory_bytes image) (4 * length image.code) ends.1
   counts ← counts_at words.1
   last ← row_at (fixed_of (codes "end" ∷ [])) counts.1
-  Ok (record { setup = setup; image = image; items = map (λ (entry : Entry). Done entry) entries.0; cores = ends.0; words = words.0; counts = counts.0 }, last.1)
+  Ok (
+    record {
+      setup = setup;
+      image = image;
+      items = map (λ (entry : Entry). Done entry) entries.0;
+      cores = ends.0;
+      words = words.0;
+      counts = counts.0;
+    },
+    last.1,
+  )
 
 -- ---- a report
 

@@ -10,7 +10,7 @@ ghost use Rattle.report_read.specs.Reading.{full_rows_at, opening_at, image_row_
 use crate::header::header;
 use crate::rows::{first_row, number_at};
 use image_file::{Image, ImageFault, read_image};
-use kmp_base::Setup;
+use kmp_base::{Fault, Setup};
 use report_rows::bytes_row;
 use report_text::NoMemory;
 use row_reader::{Stuck, cut_row};
@@ -61,9 +61,7 @@ fn full_rows<'a>(alloc: Global, text: &'a [u8], rows: u32) -> Result<(Vec<u8>, &
     let mut rest = text;
     for _ in 0..rows {
         let (row, behind) = first_row(rest, full_row)?;
-        let Ok(()) = bytes.extend_from_slice(&row) else {
-            return Err(Stuck::Memory);
-        };
+        bytes.extend_from_slice(&row)?;
         rest = behind;
     }
     Ok((bytes, rest))
@@ -122,12 +120,11 @@ pub(crate) fn last_image_row<'a>(
     ensures found { Gives (λ x. (x.0, rows_of x.1.now)) result (row_at (image_row_of size front.items) (rows_of text.now)) }
     ensures shorter { IfOk result (λ x. length x.1.now < length text.now) }
 {
-    match cut_row(text) {
-        Some((row, rest)) => match image(alloc, row, size, front) {
-            Ok(Some(image)) => Ok((image, rest)),
-            Ok(None) => Err(Stuck::At(text)),
-            Err(_) => Err(Stuck::Memory),
-        },
-        None => Err(Stuck::At(text)),
+    let Some((row, rest)) = cut_row(text) else {
+        return Err(Fault::Cause(text));
+    };
+    match image(alloc, row, size, front)? {
+        Some(image) => Ok((image, rest)),
+        None => Err(Fault::Cause(text)),
     }
 }

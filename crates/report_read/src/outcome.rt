@@ -10,13 +10,13 @@ ghost use Rattle.report_read.specs.Reading.{entries_at, end_at, ends_at, words_a
 use crate::rows::{first_row, registers_at};
 use access_log::{Entry, History, Item};
 use image_file::Image;
-use kmp_base::Setup;
+use kmp_base::{Fault, Setup};
 use mips_isa::CoreState;
 use report_rows::{
     Counts, MemoryWord, count_name, count_row, end_row, entry_row, last_row, memory_row,
 };
 use report_text::{NoMemory, Report};
-use row_reader::{Stuck, is_next};
+use row_reader::{Stuck, named_row};
 use std::alloc::Global;
 use timetable::{CoreEnd, Rows};
 
@@ -36,11 +36,11 @@ fn entries<'a>(
 {
     let mut entries = Vec::new(alloc);
     let mut rest = text;
-    'rows: while is_next(rest, b"A") {
-        let (entry, behind) = first_row(rest, move |row| entry_row(row, cores, bytes))?;
-        let Ok(()) = entries.push(entry) else {
-            return Err(Stuck::Memory);
+    'rows: while let Some((parts, behind)) = named_row(rest, b"A") {
+        let Some(entry) = entry_row(parts, cores, bytes) else {
+            return Err(Fault::Cause(rest));
         };
+        entries.push(entry)?;
         rest = behind;
     }
     Ok((entries, rest))
@@ -97,9 +97,7 @@ fn ends<'a>(
     let mut rest = text;
     for core in 0..cores {
         let (ended, behind) = end(alloc, rest, budget, core)?;
-        let Ok(()) = ends.push(ended) else {
-            return Err(Stuck::Memory);
-        };
+        ends.push(ended)?;
         rest = behind;
     }
     Ok((ends, rest))
@@ -119,11 +117,11 @@ fn words<'a>(
     let mut words = Vec::new(alloc);
     let mut rest = text;
     let mut from = low;
-    'rows: while is_next(rest, b"W") {
-        let (word, behind) = first_row(rest, move |row| memory_row(row, bytes, from))?;
-        let Ok(()) = words.push(word) else {
-            return Err(Stuck::Memory);
+    'rows: while let Some((parts, behind)) = named_row(rest, b"W") {
+        let Some(word) = memory_row(parts, bytes, from) else {
+            return Err(Fault::Cause(rest));
         };
+        words.push(word)?;
         from = word.addr + 4;
         rest = behind;
     }
@@ -178,9 +176,7 @@ pub(crate) fn outcome<'a>(
     let (words, rest) = words(alloc, rest, bytes, 4 * image.code.len() as u32)?;
     let (counts, rest) = counts(rest)?;
     let (_, rest) = first_row(rest, |row| last_row(row))?;
-    let Ok(history) = history(alloc, &entries) else {
-        return Err(Stuck::Memory);
-    };
+    let history = history(alloc, &entries)?;
     let report = Report {
         setup,
         image,

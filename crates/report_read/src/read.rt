@@ -10,6 +10,7 @@ ghost use Rattle.report_read.specs.Reading.{report_at, read_of};
 
 use crate::image::{last_image_row, read_opening};
 use crate::outcome::outcome;
+use kmp_base::Fault;
 use report_text::Report;
 use row_reader::{Stuck, row_count};
 use std::alloc::Global;
@@ -36,7 +37,7 @@ fn read(alloc: Global, text: &[u8]) -> Result<Report, Stuck<'_>>
     if rest.is_empty() {
         Ok(report)
     } else {
-        Err(Stuck::At(rest))
+        Err(Fault::Cause(rest))
     }
 }
 
@@ -65,8 +66,8 @@ pub fn read_report(alloc: Global, bytes: &[u8]) -> Result<Report, ReportFault>
 {
     match read(alloc, bytes) {
         Ok(report) => Ok(report),
-        Err(Stuck::Memory) => Err(ReportFault::Memory),
-        Err(Stuck::At(rest)) => {
+        Err(Fault::Memory) => Err(ReportFault::Memory),
+        Err(Fault::Cause(rest)) => {
             let line = row_count(bytes) - row_count(rest) + 1;
             Err(ReportFault::BadRow(line as u32))
         }

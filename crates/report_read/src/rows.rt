@@ -7,6 +7,7 @@ ghost use Rattle.row_reader.specs.Reading.{row_at};
 ghost use Rattle.row_reader.specs.Gives.{Gives};
 ghost use Rattle.report_rows.specs.Reading.{fixed_of, number_row_of, registers_row_of};
 
+use kmp_base::Fault;
 use report_rows::{fixed_row, number_row, registers_row};
 use row_reader::{Stuck, cut_row};
 
@@ -27,9 +28,9 @@ pub(crate) fn first_row<'a, T: Copy, F: FnOnce(&[u8]) -> Option<T>>(
     match cut_row(text) {
         Some((row, rest)) => match read(row) {
             Some(value) => Ok((value, rest)),
-            None => Err(Stuck::At(text)),
+            None => Err(Fault::Cause(text)),
         },
-        None => Err(Stuck::At(text)),
+        None => Err(Fault::Cause(text)),
     }
 }
 

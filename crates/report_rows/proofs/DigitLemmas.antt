@@ -11,7 +11,9 @@ encode_lower-append [] b = refl
 encode_lower-append (x ∷ a) b = ap (λ t. encode_lower (x ∷ []) ++ t) (encode_lower-append a b)
 
 -- the digits of one more number, where one is left
-pub digits_more : (i : ℕ) (numbers : List ℕ) → encode_lower (flat_map (to_le_bytes w32) (take (i + 1) numbers)) ≡ encode_lower (flat_map (to_le_bytes w32) (take i numbers)) ++ encode_lower (flat_map (to_le_bytes w32) (take 1 (drop i numbers)))
+pub digits_more : (i : ℕ) (numbers : List ℕ)
+    → encode_lower (flat_map (to_le_bytes w32) (take (i + 1) numbers)) ≡ encode_lower (flat_map (to_le_bytes w32) (take i numbers))
+    ++ encode_lower (flat_map (to_le_bytes w32) (take 1 (drop i numbers)))
 digits_more i numbers =
     ap (λ t. encode_lower (flat_map (to_le_bytes w32) t)) (take-add i 1 numbers)
     ∙ ap encode_lower (flat_map-append (to_le_bytes w32) (take i numbers) (take 1 (drop i numbers)))

@@ -27,7 +27,8 @@ use Rattle.mips_isa.specs.Names.{kind_name}
 use Rattle.timetable.specs.Names.{end_name}
 use Rattle.report_rows.specs.Names.{count_names}
 use Rattle.report_rows.specs.Bounds.{IsHeader, IsEntry, IsItem, IsEnd, IsCount}
-use Rattle.report_rows.specs.Rows.{text_row, number_row, bytes_row, entry_row, item_row, core_row, registers_row, memory_row, count_row_at, header_rows, core_rows, access_count_rows, bus_count_rows, wait_count_rows}
+use Rattle.report_rows.specs.Rows.{text_row, number_row, bytes_row, entry_row, item_row, core_row, registers_row, memory_row, count_row_at}
+use Rattle.report_rows.specs.Rows.{header_rows, core_rows, access_count_rows, bus_count_rows, wait_count_rows}
 
 -- ---- names
 
@@ -79,7 +80,10 @@ entry_plain cores bytes entry few is = (
     decimal_plain entry.core (omega (arith, is.core)),
     (
       decimal_plain entry.nth (omega (arith, is.nth)),
-      (plain_by_test (kind_name entry.kind) (kind_passes entry.kind), (hex8_plain entry.addr, (hex8_plain entry.old, (word_or_dash_plain entry.new, tt)))),
+      (
+        plain_by_test (kind_name entry.kind) (kind_passes entry.kind),
+        (hex8_plain entry.addr, (hex8_plain entry.old, (word_or_dash_plain entry.new, tt))),
+      ),
     ),
   ),
 )
@@ -132,7 +136,8 @@ registers_plain : (core first : ℕ) (regs : List ℕ) → core < 2 ^ 64 → fir
 registers_plain core first regs small early =
     (plain_by_test (codes "R") refl, (decimal_plain core small, (decimal_plain first early, words_plain (take 8 (drop first regs)))))
 
-pub core_rows_plain : (core budget : ℕ) (ended : EndValue) → core < 2 ^ 64 → budget < 2 ^ 64 → IsEnd budget ended → AllByRecursion IsPlainRow (core_rows core ended)
+pub core_rows_plain : (core budget : ℕ) (ended : EndValue) → core < 2 ^ 64 → budget < 2 ^ 64 → IsEnd budget ended
+    → AllByRecursion IsPlainRow (core_rows core ended)
 unfolding core_rows
 core_rows_plain core budget ended small few is =
     let row : IsPlainRow (core_row core ended) = (
@@ -166,15 +171,35 @@ count_at [] are k = omega arith
 count_at (count ∷ counts) are zero = are.0
 count_at (count ∷ counts) are (suc k) = count_at counts are.1 k
 
-count_row_plain : (counts : List ℕ) (k : ℕ) → passes (slice_index_or count_names k []) ≡ true → AllByRecursion IsCount counts → IsPlainRow (count_row_at counts k)
-count_row_plain counts k plain are =
-    (plain_by_test (codes "N") refl, (plain_by_test (slice_index_or count_names k []) plain, (decimal_plain (slice_index counts k) (count_at counts are k), tt)))
+count_row_plain : (counts : List ℕ) (k : ℕ) → passes (slice_index_or count_names k []) ≡ true → AllByRecursion IsCount counts
+    → IsPlainRow (count_row_at counts k)
+count_row_plain counts k plain are = (
+  plain_by_test (codes "N") refl,
+  (plain_by_test (slice_index_or count_names k []) plain, (decimal_plain (slice_index counts k) (count_at counts are k), tt)),
+)
 
 pub count_rows_plain : (counts : List ℕ) → AllByRecursion IsCount counts
     → AllByRecursion IsPlainRow (access_count_rows counts ++ bus_count_rows counts ++ wait_count_rows counts)
 unfolding access_count_rows bus_count_rows wait_count_rows
-count_rows_plain counts are =
-    (row 0 refl, (row 1 refl, (row 2 refl, (row 3 refl, (row 4 refl, (row 5 refl, (row 6 refl, (row 7 refl, (row 8 refl, (row 9 refl, (row 10 refl, (row 11 refl, (row 12 refl, tt)))))))))))))
+count_rows_plain counts are = (
+  row 0 refl,
+  (
+    row 1 refl,
+    (
+      row 2 refl,
+      (
+        row 3 refl,
+        (
+          row 4 refl,
+          (
+            row 5 refl,
+            (row 6 refl, (row 7 refl, (row 8 refl, (row 9 refl, (row 10 refl, (row 11 refl, (row 12 refl, tt))))))),
+          ),
+        ),
+      ),
+    ),
+  ),
+)
   where
     row : (k : ℕ) → passes (slice_index_or count_names k []) ≡ true → IsPlainRow (count_row_at counts k)
     row k plain = count_row_plain counts k plain are

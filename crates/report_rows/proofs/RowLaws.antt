@@ -1,5 +1,6 @@
 -- What is read of a row is what the row spells.
-use Rattle.std.proofs.Common.{◌≡◌, ◌≢◌, ℕ, ◌-◌, ◌^◌, ◌<◌, ◌≤◌, List, [], ◌∷◌, ◌++◌, length, map, get_or, decimal, Option, refl, sym, ap, ◌∙◌, subst, arith}
+use Rattle.std.proofs.Common.{◌≡◌, ◌≢◌, ℕ, ◌-◌, ◌^◌, ◌<◌, ◌≤◌, List, [], ◌∷◌, ◌++◌, length, map, get_or, decimal, Option, refl, sym, ap}
+use Rattle.std.proofs.Common.{◌∙◌, subst, arith}
 use Rattle.std.specs.Prelude.{codes, IfSome, Some, None}
 use Rattle.std.specs.List.{AllByRecursion, range_with_len}
 use Rattle.std.proofs.lemmas.List.FromFn.{fill_by_all}
@@ -19,19 +20,26 @@ use Rattle.report_rows.specs.declared.read.EndRow.{EndRow}
 use Rattle.kmp_base.specs.Names.{policy_name, turns_name}
 use Rattle.report_rows.specs.Bounds.{IsWord, IsByte, IsTime, IsPlace, IsEntry, IsMemoryWord, IsCount}
 use Rattle.report_rows.specs.Rows.{text_row, number_row, bytes_row, entry_row, core_row, memory_row, count_row}
-use Rattle.report_rows.specs.Reading.{behind_name, fixed_of, number_from, number_row_of, sets_row_of, policy_row_of, turns_row_of, bytes_row_of, entry_row_of, entry_access_of, entry_words_of, end_row_of, end_numbers_of, two_words_at, four_words_at, eight_words_of, registers_row_of, memory_row_of, count_row_of}
-use Rattle.report_rows.proofs.ValueLaws.{policy_field, turns_field, kind_field, end_field, from_field, sets_field, place_field, place_from_field, some_word_field}
+use Rattle.report_rows.specs.Reading.{behind_name, fixed_of, number_from, number_row_of, sets_row_of, policy_row_of, turns_row_of}
+use Rattle.report_rows.specs.Reading.{bytes_row_of, entry_row_of, entry_access_of, entry_words_of, end_row_of, end_numbers_of, two_words_at}
+use Rattle.report_rows.specs.Reading.{four_words_at, eight_words_of, registers_row_of, memory_row_of, count_row_of}
+use Rattle.report_rows.proofs.ValueLaws.{policy_field, turns_field, kind_field, end_field, from_field, sets_field, address_field}
+use Rattle.report_rows.proofs.ValueLaws.{address_from_field, some_word_field}
 
 -- ---- rows that say one thing, or a name and a value
 
 pub fixed_law : (parts : Row) → IsRow (λ (x : Unit {0}). Unit {0}) (λ x. parts) (fixed_of parts)
 unfolding fixed_of
-fixed_law [] = row_as (λ (x : Unit {0}). Unit {0} × Unit {0}) (λ x. Unit {0}) (λ x. []) (λ x. []) (fixed_of []) (λ x h. tt) (λ x h. (tt, tt)) (λ x. refl)
+fixed_law [] = row_as (λ (x : Unit {0}). Unit {0} × Unit {0}) (λ x. Unit {0}) (λ x. []) (λ x. []) (fixed_of []) (λ x h. tt)
+    (λ x h. (tt, tt)) (λ x. refl)
     (last_field tt (λ x. Unit {0}) (λ z k. refl) tt)
 fixed_law (part ∷ parts) =
-    row_as (λ (x : Unit {0}). Unit {0} × (Unit {0} × Unit {0})) (λ x. Unit {0}) (λ x. part ∷ parts) (λ x. part ∷ parts) (fixed_of (part ∷ parts)) (λ x h. tt) (λ x h. (tt, (tt, tt))) (λ x. refl)
-    (then_field (λ (x : Unit {0}). Unit {0}) (λ x. part) (exactly part) (λ z. tt) (λ z. Unit {0}) (λ z. Unit {0}) (λ z. parts) (λ x row. fixed_of parts row) (exactly_field part) (λ x _.
-    row_as (λ (x : Unit {0}). Unit {0}) (λ z. ((tt ≡ x) × Unit {0}) × Unit {0}) (λ x. parts) (λ x. parts) (fixed_of parts) (λ z h. ((refl, tt), tt)) (λ z h. tt) (λ z. refl) (fixed_law parts)))
+    row_as (λ (x : Unit {0}). Unit {0} × (Unit {0} × Unit {0})) (λ x. Unit {0}) (λ x. part ∷ parts) (λ x. part ∷ parts)
+    (fixed_of (part ∷ parts)) (λ x h. tt) (λ x h. (tt, (tt, tt))) (λ x. refl)
+    (then_field (λ (x : Unit {0}). Unit {0}) (λ x. part) (exactly part) (λ z. tt) (λ z. Unit {0}) (λ z. Unit {0}) (λ z. parts)
+    (λ x row. fixed_of parts row) (exactly_field part) (λ x _.
+    row_as (λ (x : Unit {0}). Unit {0}) (λ z. ((tt ≡ x) × Unit {0}) × Unit {0}) (λ x. parts) (λ x. parts) (fixed_of parts)
+    (λ z h. ((refl, tt), tt)) (λ z h. tt) (λ z. refl) (fixed_law parts)))
 
 behind_fields : {X : Type 0} (Fits : X → Type 0) (spell : X → List ℕ) (one : List ℕ → Option X) (name : List ℕ)
     → IsField Fits spell one → IsRow (λ x. Unit {0} × (Unit {0} × (Fits x × Unit {0}))) (λ x. name ∷ spell x ∷ []) (behind_name one name)
@@ -44,12 +52,15 @@ behind_fields Fits spell one name law =
 behind_law : {X : Type 0} (Fits : X → Type 0) (spell : X → List ℕ) (one : List ℕ → Option X) (name : List ℕ)
     → IsField Fits spell one → IsRow Fits (λ x. name ∷ spell x ∷ []) (behind_name one name)
 behind_law Fits spell one name law =
-    row_as (λ x. Unit {0} × (Unit {0} × (Fits x × Unit {0}))) Fits (λ x. name ∷ spell x ∷ []) (λ x. name ∷ spell x ∷ []) (behind_name one name)
+    row_as (λ x. Unit {0} × (Unit {0} × (Fits x × Unit {0}))) Fits (λ x. name ∷ spell x ∷ []) (λ x. name ∷ spell x ∷ [])
+    (behind_name one name)
     (λ z h. h.1.1.0) (λ z h. (tt, (tt, (h, tt)))) (λ z. refl) (behind_fields Fits spell one name law)
 
-pub number_law : (name : List ℕ) (least most : ℕ) → most < 2 ^ 64 → IsRow (λ n. (least ≤ n) × (n ≤ most)) (number_row name) (number_row_of name least most)
+pub number_law : (name : List ℕ) (least most : ℕ) → most < 2 ^ 64
+    → IsRow (λ n. (least ≤ n) × (n ≤ most)) (number_row name) (number_row_of name least most)
 unfolding number_row_of
-number_law name least most small = behind_law (λ n. (least ≤ n) × (n ≤ most)) decimal (number_from least most) name (from_field least most small)
+number_law name least most small =
+    behind_law (λ n. (least ≤ n) × (n ≤ most)) decimal (number_from least most) name (from_field least most small)
 
 pub sets_law : IsRow (λ n. ((k : ℕ) × (n ≡ 2 ^ k)) × (n ≤ 256)) (number_row (codes "sets")) sets_row_of
 unfolding sets_row_of
@@ -83,7 +94,8 @@ entry_is z core nth kind addr old new a b c d e f = let g = make_entry_is z in c
 
 abbrev EntryFields : ℕ → ℕ → Entry → Type 0
 EntryFields cores bytes z =
-    Unit {0} × (Unit {0} × ((z.core ≤ cores - 1) × (IsTime z.nth × ((z.kind ≢ Fetch) × (IsPlace bytes z.addr × (IsWord z.old × (IfSome z.new IsWord × Unit {0})))))))
+    Unit {0} × (Unit {0} × ((z.core ≤ cores - 1)
+    × (IsTime z.nth × ((z.kind ≢ Fetch) × (IsPlace bytes z.addr × (IsWord z.old × (IfSome z.new IsWord × Unit {0})))))))
 
 entry_fields : (cores bytes : ℕ) → cores ≤ 8 → bytes ≤ 2 ^ 32 → IsRow (EntryFields cores bytes) entry_row (entry_row_of cores bytes)
 unfolding entry_row_of entry_access_of entry_words_of make_entry
@@ -92,17 +104,25 @@ entry_fields cores bytes few fits =
     then_field _ _ _ (λ z. z.core) _ _ _ _ (number_field (cores - 1) (omega arith)) (λ core _.
     then_field _ _ _ (λ z. z.nth) _ _ _ _ (number_field 100002 (omega arith)) (λ nth _.
     then_field _ _ _ (λ z. z.kind) _ _ _ _ kind_field (λ kind _.
-    then_field _ _ _ (λ z. z.addr) _ _ _ _ (place_field bytes fits) (λ addr _.
+    then_field _ _ _ (λ z. z.addr) _ _ _ _ (address_field bytes fits) (λ addr _.
     then_field _ _ _ (λ z. z.old) _ _ _ _ word_field (λ old _.
     then_field _ _ _ (λ z. z.new) _ _ _ _ optional_field (λ new _.
     last_field (record { core = core; nth = nth; kind = kind; addr = addr; old = old; new = new }) _
     (λ z k. entry_is z core nth kind addr old new k.1.1.1.1.1.0 k.1.1.1.1.0 k.1.1.1.0 k.1.1.0 k.1.0 k.0)
     (refl, (refl, (refl, (refl, (refl, (refl, (refl, tt))))))))))))))
 
-pub entry_law : (cores bytes : ℕ) → 1 ≤ cores → cores ≤ 8 → bytes ≤ 2 ^ 32 → IsRow (IsEntry cores bytes) entry_row (entry_row_of cores bytes)
+pub entry_law : (cores bytes : ℕ) → 1 ≤ cores → cores ≤ 8 → bytes ≤ 2 ^ 32
+    → IsRow (IsEntry cores bytes) entry_row (entry_row_of cores bytes)
 entry_law cores bytes some few fits =
     row_as (EntryFields cores bytes) (IsEntry cores bytes) entry_row entry_row (entry_row_of cores bytes)
-    (λ z h. record { core = omega (arith, some, h.1.1.0); nth = h.1.1.1.0; kind = h.1.1.1.1.0; addr = h.1.1.1.1.1.0; old = h.1.1.1.1.1.1.0; new = h.1.1.1.1.1.1.1.0 })
+    (λ z h. record {
+      core = omega (arith, some, h.1.1.0);
+      nth = h.1.1.1.0;
+      kind = h.1.1.1.1.0;
+      addr = h.1.1.1.1.1.0;
+      old = h.1.1.1.1.1.1.0;
+      new = h.1.1.1.1.1.1.1.0;
+    })
     (λ z i. (tt, (tt, (omega (arith, i.core), (i.nth, (i.kind, (i.addr, (i.old, (i.new, tt)))))))))
     (λ z. refl) (entry_fields cores bytes few fits)
 
@@ -176,11 +196,14 @@ eight_is xs long = fill_by_all (number_at xs) xs 8 0 long (λ k small. refl)
 make_eight : ℕ → ℕ → ℕ → ℕ → ℕ → ℕ → ℕ → ℕ → List ℕ
 make_eight a b c d e f g h = a ∷ b ∷ c ∷ d ∷ e ∷ f ∷ g ∷ h ∷ []
 
-make_eight_is : (z : List ℕ) → length z ≡ 8 → make_eight (number_at z 0) (number_at z 1) (number_at z 2) (number_at z 3) (number_at z 4) (number_at z 5) (number_at z 6) (number_at z 7) ≡ z
+make_eight_is : (z : List ℕ) → length z ≡ 8
+    → make_eight (number_at z 0) (number_at z 1) (number_at z 2) (number_at z 3) (number_at z 4) (number_at z 5) (number_at z 6)
+    (number_at z 7) ≡ z
 unfolding make_eight
 make_eight_is z long = sym (eight_is z long)
 
-numbers_are : (z : List ℕ) (a b c d e f g h : ℕ) → length z ≡ 8 → number_at z 0 ≡ a → number_at z 1 ≡ b → number_at z 2 ≡ c → number_at z 3 ≡ d
+numbers_are : (z : List ℕ) (a b c d e f g h : ℕ) → length z ≡ 8 → number_at z 0 ≡ a → number_at z 1 ≡ b → number_at z 2 ≡ c
+    → number_at z 3 ≡ d
     → number_at z 4 ≡ e → number_at z 5 ≡ f → number_at z 6 ≡ g → number_at z 7 ≡ h → make_eight a b c d e f g h ≡ z
 numbers_are z a b c d e f g h long p q r s t u v w = let is = make_eight_is z long in cc
 
@@ -201,12 +224,14 @@ two_then row next =
     ∙ then_same (field_at word_of row) _ _ (λ a. then_then (field_at word_of a.1) _ next)
 
 four_then : {X : Type 0} (row : Row) (next : List ℕ × Row → Option X)
-    → (four_words_at row >>= next) ≡ (field_at word_of row >>= λ a. field_at word_of a.1 >>= λ b. field_at word_of b.1 >>= λ c. field_at word_of c.1 >>= λ d.
+    → (four_words_at row >>= next)
+    ≡ (field_at word_of row >>= λ a. field_at word_of a.1 >>= λ b. field_at word_of b.1 >>= λ c. field_at word_of c.1 >>= λ d.
     next (a.0 ∷ b.0 ∷ c.0 ∷ d.0 ∷ [], d.1))
 unfolding four_words_at
 four_then row next =
     then_then (two_words_at row) _ next
-    ∙ (then_same (two_words_at row) _ _ (λ lower. then_then (two_words_at lower.1) _ next ∙ two_then lower.1 (λ upper. next (lower.0 ++ upper.0, upper.1)))
+    ∙ (then_same (two_words_at row) _ _
+    (λ lower. then_then (two_words_at lower.1) _ next ∙ two_then lower.1 (λ upper. next (lower.0 ++ upper.0, upper.1)))
     ∙ two_then row _)
 
 -- eight words, one after the other
@@ -230,7 +255,8 @@ eight_words_are row =
 
 abbrev RegistersFields : List ℕ → Type 0
 RegistersFields z =
-    (length z ≡ 8) × (Unit {0} × (Unit {0} × (Unit {0} × (IsWord (number_at z 0) × (IsWord (number_at z 1) × (IsWord (number_at z 2) × (IsWord (number_at z 3)
+    (length z ≡ 8) × (Unit {0} × (Unit {0}
+    × (Unit {0} × (IsWord (number_at z 0) × (IsWord (number_at z 1) × (IsWord (number_at z 2) × (IsWord (number_at z 3)
     × (IsWord (number_at z 4) × (IsWord (number_at z 5) × (IsWord (number_at z 6) × (IsWord (number_at z 7) × Unit {0})))))))))))
 
 abbrev registers_parts : ℕ → ℕ → List ℕ → Row
@@ -241,15 +267,15 @@ registers_from : ℕ → ℕ → Row → Option (List ℕ)
 registers_from core first row = do
   title ← field_at (exactly (codes "R")) row
   key ← field_at (exactly (decimal core)) title.1
-  place ← field_at (exactly (decimal first)) key.1
-  words_from place.1
+  from ← field_at (exactly (decimal first)) key.1
+  words_from from.1
 
 registers_fields : (core first : ℕ) → IsRow RegistersFields (λ z. registers_parts core first (eight_of z)) (registers_from core first)
 unfolding registers_from words_from make_eight
 registers_fields core first =
     then_field _ _ _ (λ z. tt) _ _ _ _ (exactly_field (codes "R")) (λ title _.
     then_field _ _ _ (λ z. tt) _ _ _ _ (exactly_field (decimal core)) (λ key _.
-    then_field _ _ _ (λ z. tt) _ _ _ _ (exactly_field (decimal first)) (λ place _.
+    then_field _ _ _ (λ z. tt) _ _ _ _ (exactly_field (decimal first)) (λ from _.
     then_field _ _ _ (λ z. number_at z 0) _ _ _ _ word_field (λ a _.
     then_field _ _ _ (λ z. number_at z 1) _ _ _ _ word_field (λ b _.
     then_field _ _ _ (λ z. number_at z 2) _ _ _ _ word_field (λ c _.
@@ -259,7 +285,8 @@ registers_fields core first =
     then_field _ _ _ (λ z. number_at z 6) _ _ _ _ word_field (λ g _.
     then_field _ _ _ (λ z. number_at z 7) _ _ _ _ word_field (λ h _.
     last_field (a ∷ b ∷ c ∷ d ∷ e ∷ f ∷ g ∷ h ∷ []) _
-    (λ z k. numbers_are z a b c d e f g h k.1.1.1.1.1.1.1.1.1.1.1 k.1.1.1.1.1.1.1.0 k.1.1.1.1.1.1.0 k.1.1.1.1.1.0 k.1.1.1.1.0 k.1.1.1.0 k.1.1.0 k.1.0 k.0)
+    (λ z k. numbers_are z a b c d e f g h k.1.1.1.1.1.1.1.1.1.1.1 k.1.1.1.1.1.1.1.0 k.1.1.1.1.1.1.0 k.1.1.1.1.1.0 k.1.1.1.1.0 k.1.1.1.0
+    k.1.1.0 k.1.0 k.0)
     (refl, (refl, (refl, (refl, (refl, (refl, (refl, (refl, (refl, (refl, (refl, refl))))))))))))))))))))))
 
 -- the registers are read word by word
@@ -268,7 +295,7 @@ unfolding registers_row_of registers_from
 registers_are core first row =
     then_same (field_at (exactly (codes "R")) row) _ _ (λ title.
     then_same (field_at (exactly (decimal core)) title.1) _ _ (λ key.
-    then_same (field_at (exactly (decimal first)) key.1) _ _ (λ place. eight_words_are place.1)))
+    then_same (field_at (exactly (decimal first)) key.1) _ _ (λ from. eight_words_are from.1)))
 
 -- a row that is read by other words
 row_read : {X : Type 0} (Fits : X → Type 0) (line : X → Row) (one one' : Row → Option X)
@@ -287,12 +314,16 @@ row_spelled Fits line line' one same law = record {
 }
 
 pub registers_law : (core first : ℕ)
-    → IsRow (λ regs. (length regs ≡ 8) × AllByRecursion IsWord regs) (λ regs. codes "R" ∷ decimal core ∷ decimal first ∷ map hex8 regs) (registers_row_of core first)
+    → IsRow (λ regs. (length regs ≡ 8) × AllByRecursion IsWord regs) (λ regs. codes "R" ∷ decimal core ∷ decimal first ∷ map hex8 regs)
+    (registers_row_of core first)
 registers_law core first =
-    row_read (λ regs. (length regs ≡ 8) × AllByRecursion IsWord regs) (registers_parts core first) (registers_from core first) (registers_row_of core first) (registers_are core first)
-    (row_spelled (λ regs. (length regs ≡ 8) × AllByRecursion IsWord regs) (λ z. registers_parts core first (eight_of z)) (registers_parts core first) (registers_from core first)
+    row_read (λ regs. (length regs ≡ 8) × AllByRecursion IsWord regs) (registers_parts core first) (registers_from core first)
+    (registers_row_of core first) (registers_are core first)
+    (row_spelled (λ regs. (length regs ≡ 8) × AllByRecursion IsWord regs) (λ z. registers_parts core first (eight_of z))
+    (registers_parts core first) (registers_from core first)
     (λ z h. ap (registers_parts core first) (sym (eight_is z h.0)))
-    (row_as RegistersFields (λ regs. (length regs ≡ 8) × AllByRecursion IsWord regs) (λ z. registers_parts core first (eight_of z)) (λ z. registers_parts core first (eight_of z)) (registers_from core first)
+    (row_as RegistersFields (λ regs. (length regs ≡ 8) × AllByRecursion IsWord regs) (λ z. registers_parts core first (eight_of z))
+    (λ z. registers_parts core first (eight_of z)) (registers_from core first)
     (λ z h. (h.0, subst (AllByRecursion IsWord) (sym (eight_is z h.0)) h.1.1.1.1))
     (λ z h. (h.0, (tt, (tt, (tt, subst (AllByRecursion IsWord) (eight_is z h.0) h.1)))))
     (λ z. refl) (registers_fields core first)))
@@ -316,7 +347,7 @@ word_fields : (bytes low : ℕ) → bytes ≤ 2 ^ 32 → IsRow (WordFields bytes
 unfolding memory_row_of make_word
 word_fields bytes low fits =
     then_field _ _ _ (λ z. tt) _ _ _ _ (exactly_field (codes "W")) (λ title _.
-    then_field _ _ _ (λ z. z.addr) _ _ _ _ (place_from_field bytes low fits) (λ addr _.
+    then_field _ _ _ (λ z. z.addr) _ _ _ _ (address_from_field bytes low fits) (λ addr _.
     then_field _ _ _ (λ z. z.value) _ _ _ _ some_word_field (λ value _.
     last_field (record { addr = addr; value = value }) _ (λ z k. word_is z addr value k.1.0 k.0) (refl, (refl, (refl, tt))))))
 

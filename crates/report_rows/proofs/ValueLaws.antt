@@ -1,10 +1,12 @@
 -- What is read of one part of a row is what it spells.
-use Rattle.std.proofs.Common.{◌≡◌, ◌≢◌, ℕ, zero, suc, ◌+◌, ◌-◌, ◌*◌, ◌/◌, ◌%◌, ◌⊎◌, inl, inr, subst, ◌^◌, ◌<◌, ◌≤◌, ◌==◌, Bool, true, false, cond, List, [], ◌∷◌, decimal, Option, Some, None, refl, sym, ap, ◌∙◌, arith}
+use Rattle.std.proofs.Common.{◌≡◌, ◌≢◌, ℕ, zero, suc, ◌+◌, ◌-◌, ◌*◌, ◌/◌, ◌%◌, ◌⊎◌, inl, inr, subst, ◌^◌, ◌<◌, ◌≤◌, ◌==◌, Bool, true, false}
+use Rattle.std.proofs.Common.{cond, List, [], ◌∷◌, decimal, Option, Some, None, refl, sym, ap, ◌∙◌, arith}
 use Rattle.std.specs.Prelude.{nat_le}
 use Rattle.std.specs.Int.{◌∣◌}
 use Rattle.std.specs.Str.{bytes_eq}
 use Rattle.std.proofs.lemmas.Bool.{and_from, and_parts, leb-true, le-leb, eqb-true, eq-eqb, ltb-true, lt-ltb}
-use Rattle.std.proofs.Math.Nat.{div-add-mod, mul-mod_left, mul-mod_right, mul_assoc, mul_left_comm, dvd-mul_right, eq-one_of_dvd-one, pow-succ'}
+use Rattle.std.proofs.Math.Nat.{div-add-mod, mul-mod_left, mul-mod_right, mul_assoc, mul_left_comm, dvd-mul_right, eq-one_of_dvd-one}
+use Rattle.std.proofs.Math.Nat.{pow-succ'}
 use Rattle.std.proofs.lemmas.Nat.{pow-add, pow_below, pow_pos, mul-mod}
 use Rattle.kmp_base.specs.Text.{hex8}
 use Rattle.kmp_base.specs.declared.setup.Policy.{Policy}
@@ -23,7 +25,8 @@ use Rattle.kmp_base.specs.Names.{named, with_names, policy_name, turns_name, eve
 use Rattle.mips_isa.specs.Names.{kind_name}
 use Rattle.timetable.specs.Names.{end_name}
 use Rattle.report_rows.specs.Bounds.{IsWord, IsPlace}
-use Rattle.report_rows.specs.Reading.{every_access, every_end, policy_of, turns_of, kind_of, end_of, number_from, sets_of, is_place, place_of, place_from, some_word_of}
+use Rattle.report_rows.specs.Reading.{every_access, every_end, policy_of, turns_of, kind_of, end_of, number_from, sets_of, is_address}
+use Rattle.report_rows.specs.Reading.{address_of, address_from, some_word_of}
 
 -- the same field in other words
 field_as : {X : Type 0} (Fits Fits' : X → Type 0) (spell : X → List ℕ) (one : List ℕ → Option X)
@@ -41,7 +44,8 @@ named_here name text value x true more is others e = sym (same_text (name value)
 named_here name text value x false more is others e = others e
 
 -- a text that names a value is its name
-named_found : {X : Type 0} (name : X → List ℕ) (values : List X) (text : List ℕ) (x : X) → named (with_names name values) text ≡ Some x → text ≡ name x
+named_found : {X : Type 0} (name : X → List ℕ) (values : List X) (text : List ℕ) (x : X) → named (with_names name values) text ≡ Some x
+    → text ≡ name x
 named_found name [] text x e = absurd cc
 named_found name (value ∷ values) text x e =
     named_here name text value x (bytes_eq (name value) text) (named (with_names name values) text) refl (named_found name values text x) e
@@ -128,16 +132,17 @@ one_even (suc (suc a)) b a_small b_small e = absurd (omega arith)
 
 -- one of two numbers whose product is even is even
 half_of_product : (d q n : ℕ) → d * q ≡ 2 * n → ((d ≡ 2 * (d / 2)) × (d / 2 * q ≡ n)) ⊎ (d * (q / 2) ≡ n)
-half_of_product d q n e = elim (one_even (d % 2) (q % 2) (omega arith) (omega arith) (sym (mul-mod d q 2) ∙ ap (λ x. x % 2) e ∙ mul-mod_right 2 n)) [
-  | inl even ↦
-      let twice : d ≡ 2 * (d / 2) = omega (arith, even) in
-      let product : d * q ≡ 2 * (d / 2 * q) = ap (λ x. x * q) twice ∙ mul_assoc 2 (d / 2) q in
-      inl (twice, omega (arith, product, e))
-  | inr even ↦
-      let twice : q ≡ 2 * (q / 2) = omega (arith, even) in
-      let product : d * q ≡ 2 * (d * (q / 2)) = ap (λ x. d * x) twice ∙ mul_left_comm d 2 (q / 2) in
-      inr (omega (arith, product, e))
-]
+half_of_product d q n e = elim
+    (one_even (d % 2) (q % 2) (omega arith) (omega arith) (sym (mul-mod d q 2) ∙ ap (λ x. x % 2) e ∙ mul-mod_right 2 n)) [
+      | inl even ↦
+          let twice : d ≡ 2 * (d / 2) = omega (arith, even) in
+          let product : d * q ≡ 2 * (d / 2 * q) = ap (λ x. x * q) twice ∙ mul_assoc 2 (d / 2) q in
+          inl (twice, omega (arith, product, e))
+      | inr even ↦
+          let twice : q ≡ 2 * (q / 2) = omega (arith, even) in
+          let product : d * q ≡ 2 * (d * (q / 2)) = ap (λ x. d * x) twice ∙ mul_left_comm d 2 (q / 2) in
+          inr (omega (arith, product, e))
+    ]
 
 divisor_is_power : (k d q : ℕ) → d * q ≡ 2 ^ k → (j : ℕ) × (d ≡ 2 ^ j)
 divisor_is_power zero d q e = (0, eq-one_of_dvd-one (subst (λ n. d ∣ n) e (dvd-mul_right d q)))
@@ -171,27 +176,27 @@ sets_field =
 
 -- ---- addresses and words
 
-place_passes : (bytes addr : ℕ) → is_place bytes addr ≡ true → IsPlace bytes addr
-place_passes bytes addr e =
+address_passes : (bytes addr : ℕ) → is_address bytes addr ≡ true → IsPlace bytes addr
+address_passes bytes addr e =
     let both = and_parts _ _ e in
     record { aligned = eqb-true (addr % 4) 0 both.0; inside = ltb-true addr bytes both.1 }
 
-passes_place : (bytes addr : ℕ) → IsPlace bytes addr → is_place bytes addr ≡ true
-passes_place bytes addr h = and_from _ _ (eq-eqb (addr % 4) 0 h.aligned) (lt-ltb addr bytes h.inside)
+passes_address : (bytes addr : ℕ) → IsPlace bytes addr → is_address bytes addr ≡ true
+passes_address bytes addr h = and_from _ _ (eq-eqb (addr % 4) 0 h.aligned) (lt-ltb addr bytes h.inside)
 
-pub place_field : (bytes : ℕ) → bytes ≤ 2 ^ 32 → IsField (IsPlace bytes) hex8 (place_of bytes)
-unfolding place_of
-place_field bytes fits =
-    field_as (λ n. IsWord n × (is_place bytes n ≡ true)) (IsPlace bytes) hex8 (place_of bytes)
-    (λ n h. place_passes bytes n h.1) (λ n h. (omega (arith, h.inside), passes_place bytes n h))
-    (tested_field IsWord hex8 word_of (is_place bytes) word_field)
+pub address_field : (bytes : ℕ) → bytes ≤ 2 ^ 32 → IsField (IsPlace bytes) hex8 (address_of bytes)
+unfolding address_of
+address_field bytes fits =
+    field_as (λ n. IsWord n × (is_address bytes n ≡ true)) (IsPlace bytes) hex8 (address_of bytes)
+    (λ n h. address_passes bytes n h.1) (λ n h. (omega (arith, h.inside), passes_address bytes n h))
+    (tested_field IsWord hex8 word_of (is_address bytes) word_field)
 
-pub place_from_field : (bytes low : ℕ) → bytes ≤ 2 ^ 32 → IsField (λ n. IsPlace bytes n × (low ≤ n)) hex8 (place_from bytes low)
-unfolding place_from
-place_from_field bytes low fits =
-    field_as (λ n. IsPlace bytes n × (nat_le low n ≡ true)) (λ n. IsPlace bytes n × (low ≤ n)) hex8 (place_from bytes low)
+pub address_from_field : (bytes low : ℕ) → bytes ≤ 2 ^ 32 → IsField (λ n. IsPlace bytes n × (low ≤ n)) hex8 (address_from bytes low)
+unfolding address_from
+address_from_field bytes low fits =
+    field_as (λ n. IsPlace bytes n × (nat_le low n ≡ true)) (λ n. IsPlace bytes n × (low ≤ n)) hex8 (address_from bytes low)
     (λ n h. (h.0, leb-true low n h.1)) (λ n h. (h.0, le-leb low n h.1))
-    (tested_field (IsPlace bytes) hex8 (place_of bytes) (λ n. nat_le low n) (place_field bytes fits))
+    (tested_field (IsPlace bytes) hex8 (address_of bytes) (λ n. nat_le low n) (address_field bytes fits))
 
 pub some_word_field : IsField (λ n. IsWord n × (1 ≤ n)) hex8 some_word_of
 unfolding some_word_of

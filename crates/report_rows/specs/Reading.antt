@@ -1,5 +1,6 @@
 -- What is read of each row of a report, from its parts.
-use Rattle.std.specs.Prelude.{ℕ, ◌-◌, ◌%◌, ◌^◌, ◌==◌, ◌&&◌, nat_lt, nat_le, if◌then◌else◌, Bool, List, [], ◌∷◌, ◌++◌, codes, decimal, Option, Some, None}
+use Rattle.std.specs.Prelude.{ℕ, ◌-◌, ◌%◌, ◌^◌, ◌==◌, ◌&&◌, nat_lt, nat_le, if◌then◌else◌, Bool, List, [], ◌∷◌, ◌++◌, codes, decimal}
+use Rattle.std.specs.Prelude.{Option, Some, None}
 use Rattle.row_reader.specs.Rows.{Row}
 use Rattle.row_reader.specs.Fields.{◌>>=◌, field_at, ended}
 use Rattle.row_reader.specs.Numbers.{number_of, word_of, optional_word_of, bytes_of, exactly}
@@ -90,12 +91,12 @@ bytes_row_of size row = behind_name (bytes_of size) (codes "I") row
 -- ---- accesses
 
 -- whether a word starts there within so many bytes
-abbrev pub is_place : ℕ → ℕ → Bool
-is_place bytes addr = addr % 4 == 0 && nat_lt addr bytes
+abbrev pub is_address : ℕ → ℕ → Bool
+is_address bytes addr = addr % 4 == 0 && nat_lt addr bytes
 
 -- the address of a word within so many bytes
-unfoldable pub place_of : ℕ → List ℕ → Option ℕ
-place_of bytes text = word_of text >>= λ addr. if is_place bytes addr then Some addr else None
+unfoldable pub address_of : ℕ → List ℕ → Option ℕ
+address_of bytes text = word_of text >>= λ addr. if is_address bytes addr then Some addr else None
 
 -- the words of an access, behind its core, its number, its kind and its address
 unfoldable pub entry_words_of : ℕ → ℕ → Kind → ℕ → Row → Option Entry
@@ -108,7 +109,7 @@ entry_words_of core nth kind addr row = do
 unfoldable pub entry_access_of : ℕ → ℕ → ℕ → Row → Option Entry
 entry_access_of bytes core nth row = do
   kind ← field_at kind_of row
-  addr ← field_at (place_of bytes) kind.1
+  addr ← field_at (address_of bytes) kind.1
   entry_words_of core nth kind.0 addr.0 addr.1
 
 -- an access of one of so many cores, at a word within so many bytes
@@ -164,14 +165,14 @@ unfoldable pub registers_row_of : ℕ → ℕ → Row → Option (List ℕ)
 registers_row_of core first row = do
   title ← field_at (exactly (codes "R")) row
   key ← field_at (exactly (decimal core)) title.1
-  place ← field_at (exactly (decimal first)) key.1
-  eight_words_of place.1
+  from ← field_at (exactly (decimal first)) key.1
+  eight_words_of from.1
 
 -- ---- memory words
 
 -- such an address, from a lowest one on
-unfoldable pub place_from : ℕ → ℕ → List ℕ → Option ℕ
-place_from bytes low text = place_of bytes text >>= λ addr. if nat_le low addr then Some addr else None
+unfoldable pub address_from : ℕ → ℕ → List ℕ → Option ℕ
+address_from bytes low text = address_of bytes text >>= λ addr. if nat_le low addr then Some addr else None
 
 -- a word that isn't 0
 unfoldable pub some_word_of : List ℕ → Option ℕ
@@ -181,7 +182,7 @@ some_word_of text = word_of text >>= λ n. if nat_le 1 n then Some n else None
 unfoldable pub memory_row_of : ℕ → ℕ → Row → Option MemoryWord
 memory_row_of bytes low row = do
   title ← field_at (exactly (codes "W")) row
-  addr ← field_at (place_from bytes low) title.1
+  addr ← field_at (address_from bytes low) title.1
   value ← field_at some_word_of addr.1
   ended (record { addr = addr.0; value = value.0 }) value.1
 

@@ -33,7 +33,7 @@ number_row name n = name ∷ decimal n ∷ []
 abbrev pub bytes_row : List ℕ → List (List ℕ)
 bytes_row bytes = codes "I" ∷ encode_lower bytes ∷ []
 
--- the 32 bytes of the image from place 32 k on, or as many as there are
+-- the 32 bytes of the image from index 32 k on, or as many as there are
 abbrev pub bytes_row_at : List ℕ → ℕ → List (List ℕ)
 bytes_row_at bytes k = bytes_row (take 32 (drop (32 * k) bytes))
 
@@ -97,9 +97,9 @@ core_rows core ended =
     ∷ registers_row core 24 ended.state.regs
     ∷ []
 
--- the row of the count at a place
+-- the row of the count at an index
 abbrev pub count_row_at : List ℕ → ℕ → List (List ℕ)
-count_row_at counts place = count_row (slice_index_or count_names place []) (slice_index counts place)
+count_row_at counts index = count_row (slice_index_or count_names index []) (slice_index counts index)
 
 -- the counts of accesses, of transactions, and of the cycles waited
 unfoldable pub access_count_rows : List ℕ → List (List (List ℕ))

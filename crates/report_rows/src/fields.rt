@@ -3,7 +3,7 @@ ghost use Rattle.std.specs.Prelude.{◌≡◌, ◌≤◌, ◌<◌, ◌^◌, ◌*
 ghost use Rattle.std.specs.Option.{option_copied};
 ghost use Rattle.row_reader.specs.Fields.{Finds, parts_left, field_at};
 ghost use Rattle.row_reader.specs.Numbers.{exactly};
-ghost use Rattle.report_rows.specs.Reading.{policy_of, turns_of, kind_of, end_of, number_from, sets_of, place_of, place_from, some_word_of};
+ghost use Rattle.report_rows.specs.Reading.{policy_of, turns_of, kind_of, end_of, number_from, sets_of, address_of, address_from, some_word_of};
 
 use itoa::Buffer;
 use kmp_base::{MOST_SETS, Policy, Turns, named};
@@ -73,9 +73,9 @@ pub(crate) fn sets_of(text: &[u8]) -> Option<u64>
     }
 }
 
-#[tactic(auto, unfolding(crate::specs::Reading::place_of))]
-pub(crate) fn place_of(text: &[u8], bytes: u32) -> Option<u32>
-    ensures found { result ≡ place_of bytes text.now }
+#[tactic(auto, unfolding(crate::specs::Reading::address_of))]
+pub(crate) fn address_of(text: &[u8], bytes: u32) -> Option<u32>
+    ensures found { result ≡ address_of bytes text.now }
     ensures below { IfSome result (λ n. n < bytes) }
 {
     let addr = word_of(text)?;
@@ -86,12 +86,12 @@ pub(crate) fn place_of(text: &[u8], bytes: u32) -> Option<u32>
     }
 }
 
-#[tactic(auto, unfolding(crate::specs::Reading::place_from))]
-pub(crate) fn place_from(text: &[u8], bytes: u32, low: u32) -> Option<u32>
-    ensures found { result ≡ place_from bytes low text.now }
+#[tactic(auto, unfolding(crate::specs::Reading::address_from))]
+pub(crate) fn address_from(text: &[u8], bytes: u32, low: u32) -> Option<u32>
+    ensures found { result ≡ address_from bytes low text.now }
     ensures below { IfSome result (λ n. n < bytes) }
 {
-    let addr = place_of(text, bytes)?;
+    let addr = address_of(text, bytes)?;
     if low <= addr { Some(addr) } else { None }
 }
 

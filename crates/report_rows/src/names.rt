@@ -41,11 +41,11 @@ const COUNT_NAMES: [&str; 13] = [
     "wait-access",
 ];
 
-/// The name of the count at a place.
-pub fn count_name(place: usize) -> &'static str
-    requires place { place < 13 }
-    ensures name { result.now ≡ slice_index_or count_names place [] }
+/// The name of the count at an index.
+pub fn count_name(index: usize) -> &'static str
+    requires index { index < 13 }
+    ensures name { result.now ≡ slice_index_or count_names index [] }
     ensures short { length result.now ≤ 12 }
 {
-    COUNT_NAMES[place]
+    COUNT_NAMES[index]
 }

@@ -7,7 +7,7 @@ ghost use Rattle.report_rows.specs.Reading.{fixed_of, behind_name, number_row_of
 
 use crate::MemoryWord;
 use crate::fields::{
-    end_of, kind_of, number_from, number_name, place_from, place_of, policy_of, sets_of,
+    address_from, address_of, end_of, kind_of, number_from, number_name, policy_of, sets_of,
     some_word_of, turns_of,
 };
 use access_log::Entry;
@@ -131,18 +131,17 @@ fn entry_access(rest: Parts, bytes: u32, core: u32, nth: u32) -> Option<Entry>
     ensures { result ≡ entry_access_of bytes core nth (parts_left (option_copied rest.entry)) }
 {
     let (kind, rest) = field(rest, kind_of)?;
-    let (addr, rest) = field(rest, |text| place_of(text, bytes))?;
+    let (addr, rest) = field(rest, |text| address_of(text, bytes))?;
     entry_words(rest, core, nth, kind, addr)
 }
 
-/// An access of one of so many cores, at a word within so many bytes.
-#[tactic(auto, unfolding(crate::specs::Reading::entry_row_of))]
-pub fn entry_row(row: &[u8], cores: u32, bytes: u32) -> Option<Entry>
+/// An access of one of so many cores, at a word within so many bytes, by what stands behind its row's name.
+#[tactic(auto, unfolding(row_reader::specs::Numbers::exactly, crate::specs::Reading::entry_row_of))]
+pub fn entry_row(parts: Parts, cores: u32, bytes: u32) -> Option<Entry>
     requires some { 0 < cores }
-    ensures read { result ≡ entry_row_of cores bytes (parts_of row.now) }
+    ensures read { result ≡ entry_row_of cores bytes (codes "A" ∷ parts_left (option_copied parts.entry)) }
 {
-    let (_, rest) = name(Some(row), b"A")?;
-    let (core, rest) = number(rest, u64::from(cores - 1))?;
+    let (core, rest) = number(parts, u64::from(cores - 1))?;
     let (nth, rest) = number(rest, MOST_TIME)?;
     entry_access(rest, bytes, core as u32, nth as u32)
 }
@@ -218,14 +217,13 @@ pub fn registers_row(row: &[u8], core: u32, first: u32) -> Option<[u32; 8]>
     eight_words(rest)
 }
 
-/// A memory word that isn't 0, at an address from `low` on within so many bytes.
-#[tactic(auto, unfolding(crate::specs::Reading::memory_row_of))]
-pub fn memory_row(row: &[u8], bytes: u32, low: u32) -> Option<MemoryWord>
-    ensures read { result ≡ memory_row_of bytes low (parts_of row.now) }
+/// A memory word that isn't 0, at an address from `low` on within so many bytes, by what stands behind its row's name.
+#[tactic(auto, unfolding(row_reader::specs::Numbers::exactly, crate::specs::Reading::memory_row_of))]
+pub fn memory_row(parts: Parts, bytes: u32, low: u32) -> Option<MemoryWord>
+    ensures read { result ≡ memory_row_of bytes low (codes "W" ∷ parts_left (option_copied parts.entry)) }
     ensures below { IfSome result (λ w. w.addr < bytes) }
 {
-    let (_, rest) = name(Some(row), b"W")?;
-    let (addr, rest) = field(rest, |text| place_from(text, bytes, low))?;
+    let (addr, rest) = field(parts, |text| address_from(text, bytes, low))?;
     let (value, rest) = field(rest, some_word_of)?;
     ended(MemoryWord { addr, value }, rest)
 }

@@ -130,15 +130,15 @@ pub fn number(name: &str, n: u64) -> Row
     row
 }
 
-/// The count at a place.
-fn count_at(counts: &Counts, place: usize) -> Row
-    requires { place < 13 }
-    ensures row { result ≡ row_text (count_row_at counts.now.values place) }
+/// The count at an index.
+fn count_at(counts: &Counts, index: usize) -> Row
+    requires { index < 13 }
+    ensures row { result ≡ row_text (count_row_at counts.now.values index) }
 {
     let mut row = Row::new();
     row.text("N");
-    add_word(&mut row, count_name(place));
-    add_number(&mut row, counts.values[place]);
+    add_word(&mut row, count_name(index));
+    add_number(&mut row, counts.values[index]);
     row.text("\n");
     row
 }

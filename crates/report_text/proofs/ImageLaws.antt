@@ -19,7 +19,8 @@ pub image_bytes_are : (image : ImageValue) → AreBytes (image_bytes image)
 unfolding image_bytes
 image_bytes_are image = number_bytes_are (image_numbers image)
 
-pub in_of_meaning : (bytes : List ℕ) (image : ImageValue) (read : Result ImageValue Fault) → image_in bytes ≡ read → image_meaning bytes ≡ Ok image → image_in bytes ≡ Ok image
+pub in_of_meaning : (bytes : List ℕ) (image : ImageValue) (read : Result ImageValue Fault) → image_in bytes ≡ read
+    → image_meaning bytes ≡ Ok image → image_in bytes ≡ Ok image
 in_of_meaning bytes image (Ok other) is e = is ∙ (rw is at e)
 in_of_meaning bytes image (Err fault) is e = absurd (let no = rw is at e in cc)
 

@@ -3,4 +3,3 @@ pub mod Counts
 pub mod Text
 pub mod Form
 pub mod Right
-pub mod Bits

@@ -16,12 +16,12 @@ pub record ReportValue : Type 0 where
   pub words : List MemoryWord
   pub counts : List ℕ
 
--- The words from a place on that aren't 0, each with its address.
+-- The words from an index on that aren't 0, each with its address.
 abbrev pub words_from : ℕ → List ℕ → List MemoryWord
-words_from place [] = []
-words_from place (word ∷ words) =
-    if word == 0 then words_from (place + 1) words
-    else (record { addr = 4 * place; value = word } ∷ words_from (place + 1) words)
+words_from index [] = []
+words_from index (word ∷ words) =
+    if word == 0 then words_from (index + 1) words
+    else (record { addr = 4 * index; value = word } ∷ words_from (index + 1) words)
 
 -- The words of a memory behind so many words of code.
 abbrev pub words_past : ℕ → List ℕ → List MemoryWord

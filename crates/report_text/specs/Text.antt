@@ -4,7 +4,8 @@ use Rattle.std.specs.List.{range_with_len}
 use Rattle.kmp_base.specs.Rows.{text_of}
 use Rattle.image_file.specs.Value.{ImageValue, image_bytes}
 use Rattle.report_rows.specs.Ends.{EndValue}
-use Rattle.report_rows.specs.Rows.{number_row, bytes_row_at, item_row, memory_row, header_rows, core_rows, access_count_rows, bus_count_rows, wait_count_rows}
+use Rattle.report_rows.specs.Rows.{number_row, bytes_row_at, item_row, memory_row, header_rows, core_rows, access_count_rows}
+use Rattle.report_rows.specs.Rows.{bus_count_rows, wait_count_rows}
 use Rattle.report_text.specs.Report.{ReportValue}
 
 -- the number of the image's bytes, and the bytes, 32 in a row

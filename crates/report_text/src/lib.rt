@@ -1,17 +1,15 @@
 //! The report of a run, and its one text.
 //!
 //! The laws that other crates cite:
-//! - `proofs/CountLaws`: the items that are an entry with a property are as many as such entries.
+//! - `proofs/CountLaws`: how many counts there are; the items that are an entry with a property are as many as such entries.
 //! - `proofs/ImageLaws`: an image that its bytes mean is good.
 #![tactic(auto)]
 
 mod build;
-mod laws;
 mod print;
 mod report;
 
 pub use build::{build_report, counts_of};
-pub use laws::right_report_is_read;
 pub use print::print_report;
 pub use report::Report;
 pub use report_rows::{Counts, MemoryWord};

@@ -20,7 +20,8 @@ use Rattle.right_run.specs.Right.{EndsOn, FollowsOn, IsRight}
 
 pub record IsRightOnPlain (setup : Setup) (image : ImageValue) (outcome : OutcomeValue) : Type 0 where
   pub plain : setup.machine ≡ Plain
-  pub replays : replay image.code (start_memory image) (start_states image setup.cores) (entries outcome.items) (map (λ (ended : CoreEnd). ended.retired) outcome.cores)
+  pub replays : replay image.code (start_memory image) (start_states image setup.cores) (entries outcome.items)
+      (map (λ (ended : CoreEnd). ended.retired) outcome.cores)
       ≡ Some (record { code = image.code; cores = map final_of outcome.cores; memory = outcome.words })
   pub ends : (core : ℕ) (ended : CoreEnd) → slice_get outcome.cores core ≡ Some ended
       → IsPlainEnd setup.budget (length (own (entries outcome.items) core)) (next_of image.code (memory_bytes image) ended.state) ended
@@ -28,15 +29,18 @@ pub record IsRightOnPlain (setup : Setup) (image : ImageValue) (outcome : Outcom
   pub no_transaction : transactions outcome.items ≡ []
 
 -- No other machine is there yet.
-is-plain : (machine : MachineKind) (cores : ℕ) (image : ImageValue) (items : List Item) → FollowsOn machine cores image items → machine ≡ Plain
+is-plain : (machine : MachineKind) (cores : ℕ) (image : ImageValue) (items : List Item) → FollowsOn machine cores image items
+    → machine ≡ Plain
 is-plain Plain cores image items h = refl
 is-plain Pipe cores image items h = absurd h
 is-plain Full cores image items h = absurd h
 
-pub right-on_plain : (setup : Setup) (image : ImageValue) (outcome : OutcomeValue) → IsRight setup image outcome → IsRightOnPlain setup image outcome
+pub right-on_plain : (setup : Setup) (image : ImageValue) (outcome : OutcomeValue) → IsRight setup image outcome
+    → IsRightOnPlain setup image outcome
 right-on_plain setup image outcome right =
     let plain = is-plain setup.machine setup.cores image outcome.items right.follows in
-    let ends = λ (core : ℕ) (ended : CoreEnd) (here : slice_get outcome.cores core ≡ Some ended). subst (λ (m : MachineKind). EndsOn m setup.budget image outcome core ended) plain (right.ends core ended here) in
+    let ends = λ (core : ℕ) (ended : CoreEnd) (here : slice_get outcome.cores core ≡ Some ended).
+    subst (λ (m : MachineKind). EndsOn m setup.budget image outcome core ended) plain (right.ends core ended here) in
     record {
       plain = plain;
       replays = right.replays;
@@ -45,14 +49,18 @@ right-on_plain setup image outcome right =
       no_transaction = subst (λ (m : MachineKind). FollowsOn m setup.cores image outcome.items) plain right.follows;
     }
 
-pub right-from_plain : (setup : Setup) (image : ImageValue) (outcome : OutcomeValue) → IsRightOnPlain setup image outcome → IsRight setup image outcome
+pub right-from_plain : (setup : Setup) (image : ImageValue) (outcome : OutcomeValue) → IsRightOnPlain setup image outcome
+    → IsRight setup image outcome
 right-from_plain setup image outcome right = record {
   replays = right.replays;
-  ends = λ core ended here. subst (λ (m : MachineKind). EndsOn m setup.budget image outcome core ended) (sym right.plain) (right.ends core ended here, right.no_rows core ended here);
+  ends = λ core ended here. subst (λ (m : MachineKind). EndsOn m setup.budget image outcome core ended) (sym right.plain)
+      (right.ends core ended here, right.no_rows core ended here);
   follows = subst (λ (m : MachineKind). FollowsOn m setup.cores image outcome.items) (sym right.plain) right.no_transaction;
 }
 
 -- Cores that have their cycles in rounds.
-pub turns-rounds : (setup : Setup) (order : List Entry) → setup.machine ≡ Plain → setup.turns ≡ Round → IsInRounds order → IsInTurns setup order
+pub turns-rounds : (setup : Setup) (order : List Entry) → setup.machine ≡ Plain → setup.turns ≡ Round → IsInRounds order
+    → IsInTurns setup order
 turns-rounds setup order plain round h =
-    subst (λ (m : MachineKind). IsInTurnsOn setup.turns m order) (sym plain) (subst (λ (t : Turns). IsInTurnsOn t Plain order) (sym round) h)
+    subst (λ (m : MachineKind). IsInTurnsOn setup.turns m order) (sym plain)
+    (subst (λ (t : Turns). IsInTurnsOn t Plain order) (sym round) h)

@@ -19,6 +19,7 @@ abbrev pub EndsRightly : End → ℕ → ℕ → ℕ → Next → Type 0
 EndsRightly (Stopped stop) budget cycles used next = (next ≡ Stops stop) × (cycles ≡ used + 1) × (cycles ≤ budget)
 EndsRightly Spent budget cycles used next = (cycles ≡ budget) × (used ≤ budget) × (budget < used + plain_cycles next)
 
--- The end of an unpipelined core that made so many accesses: it used a cycle for each executed instruction, and a second one for each access.
+-- The end of an unpipelined core that made so many accesses: it used a cycle for each executed instruction, and a second one for each
+-- access.
 abbrev pub IsPlainEnd : ℕ → ℕ → Next → CoreEnd → Type 0
 IsPlainEnd budget accesses next ended = EndsRightly ended.end budget ended.cycles (ended.retired + accesses) next

@@ -32,7 +32,8 @@ FollowsOn machine cores image items = ⊥
 -- The outcome of a run is right.
 pub record IsRight (setup : Setup) (image : ImageValue) (outcome : OutcomeValue) : Type 0 where
   -- The sequential machine, stepped by the accesses in their order, comes to exactly these cores and this memory.
-  pub replays : replay image.code (start_memory image) (start_states image setup.cores) (entries outcome.items) (map (λ (ended : CoreEnd). ended.retired) outcome.cores)
+  pub replays : replay image.code (start_memory image) (start_states image setup.cores) (entries outcome.items)
+      (map (λ (ended : CoreEnd). ended.retired) outcome.cores)
       ≡ Some (record { code = image.code; cores = map final_of outcome.cores; memory = outcome.words })
   -- Each core ended at the first stop that it came to, or with its budget spent.
   pub ends : (core : ℕ) (ended : CoreEnd) → slice_get outcome.cores core ≡ Some ended → EndsAt setup image outcome core ended

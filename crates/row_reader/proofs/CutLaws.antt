@@ -1,5 +1,6 @@
 -- Where a text and a row are cut.
-use Rattle.std.proofs.Common.{◌≡◌, ◌==◌, ℕ, suc, ◌+◌, ◌-◌, ◌≤◌, Bool, true, false, cond, List, [], ◌∷◌, ◌++◌, length, take, drop, Some, None, refl, sym, ap, ◌∙◌, arith, min, append_assoc, take-append-drop, drop-cons}
+use Rattle.std.proofs.Common.{◌≡◌, ◌==◌, ℕ, suc, ◌+◌, ◌-◌, ◌≤◌, Bool, true, false, cond, List, [], ◌∷◌, ◌++◌, length, take, drop, Some}
+use Rattle.std.proofs.Common.{None, refl, sym, ap, ◌∙◌, arith, min, append_assoc, take-append-drop, drop-cons}
 use Rattle.std.specs.Prelude.{codes}
 use Rattle.std.specs.List.{All, slice_split, onto_first, position}
 use Rattle.std.proofs.lemmas.Bool.{eqb-true, ltb-false}
@@ -50,7 +51,8 @@ no_place p xs e = λ k d lt.
 abbrev pieces_after : Bool → ℕ → List (List ℕ) → List (List ℕ)
 pieces_after b x pieces = cond b ([] ∷ pieces) (onto_first x pieces)
 
-pieces_onto : (b : Bool) (x : ℕ) (pieces : List (List ℕ)) → (first : List ℕ) × (others : List (List ℕ)) × (pieces_after b x pieces ≡ first ∷ others)
+pieces_onto : (b : Bool) (x : ℕ) (pieces : List (List ℕ)) → (first : List ℕ) × (others : List (List ℕ))
+    × (pieces_after b x pieces ≡ first ∷ others)
 pieces_onto true x pieces = ([], pieces, refl)
 pieces_onto false x [] = (x ∷ [], [], refl)
 pieces_onto false x (piece ∷ pieces) = (x ∷ piece, pieces, refl)
@@ -87,7 +89,8 @@ unfolding rows_of
 cut_none text e = rw (slice_split_none is_feed text (no_place is_feed text e)) (last_piece text)
 
 -- a text that isn't empty has a row
-first_piece : (b : Bool) (x : ℕ) (first : List ℕ) (others : List (List ℕ)) → (row : Row) × (more : Rows) × (rows_of_pieces (pieces_after b x (first ∷ others)) ≡ row ∷ more)
+first_piece : (b : Bool) (x : ℕ) (first : List ℕ) (others : List (List ℕ)) → (row : Row) × (more : Rows)
+    × (rows_of_pieces (pieces_after b x (first ∷ others)) ≡ row ∷ more)
 first_piece true x first others = (parts_of [], rows_of_pieces (first ∷ others), refl)
 first_piece false x first [] = ([], [], refl)
 first_piece false x first (other ∷ others) = (parts_of (x ∷ first), rows_of_pieces (other ∷ others), refl)

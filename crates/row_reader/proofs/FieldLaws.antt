@@ -33,7 +33,8 @@ field_none Fits spell one law text other = none_or (one text) (λ x e. let f = l
 
 -- a function that finds the value of each spelling, and no other, reads what the field does
 pub field_match : {X : Type 0} (Fits : X → Type 0) (spell : X → List ℕ) (one : List ℕ → Option X) → IsField Fits spell one
-    → (text : List ℕ) (o : Option X) → IfSome o Fits → MatchOption o ((x : X) → Fits x → text ≡ spell x → ⊥) (λ x. text ≡ spell x) → o ≡ one text
+    → (text : List ℕ) (o : Option X) → IfSome o Fits → MatchOption o ((x : X) → Fits x → text ≡ spell x → ⊥) (λ x. text ≡ spell x)
+    → o ≡ one text
 field_match Fits spell one law text (Some x) fits is = sym (field_is Fits spell one law text x fits is)
 field_match Fits spell one law text None fits other = sym (field_none Fits spell one law text other)
 
@@ -57,7 +58,8 @@ pub then_field : {X Z : Type 0} (Fits : X → Type 0) (spell : X → List ℕ) (
     (first : Z → X) (Known Rest : Z → Type 0) (line_more : Z → Row) (read_more : X → Row → Option Z)
     → IsField Fits spell one
     → ((x : X) → Fits x → IsRow (λ z. ((first z ≡ x) × Known z) × Rest z) line_more (read_more x))
-    → IsRow (λ z. Known z × (Fits (first z) × Rest z)) (λ z. spell (first z) ∷ line_more z) (λ row. field_at one row >>= λ p. read_more p.0 p.1)
+    → IsRow (λ z. Known z × (Fits (first z) × Rest z)) (λ z. spell (first z) ∷ line_more z)
+    (λ row. field_at one row >>= λ p. read_more p.0 p.1)
 then_field Fits spell one first Known Rest line_more read_more law more = record {
   found = λ row z e.
       let b = bind_some (field_at one row) (λ p. read_more p.0 p.1) z e in
@@ -76,7 +78,8 @@ ended_some w z [] e = (some_is w z e, refl)
 ended_some w z (part ∷ parts) e = absurd cc
 
 -- the row ends
-pub last_field : {Z : Type 0} (w : Z) (Known : Z → Type 0) → ((z : Z) → Known z → w ≡ z) → Known w → IsRow (λ z. Known z × Unit {0}) (λ z. []) (ended w)
+pub last_field : {Z : Type 0} (w : Z) (Known : Z → Type 0) → ((z : Z) → Known z → w ≡ z) → Known w
+    → IsRow (λ z. Known z × Unit {0}) (λ z. []) (ended w)
 last_field w Known is known = record {
   found = λ row z e.
       let p = ended_some w z row e in
@@ -86,7 +89,8 @@ last_field w Known is known = record {
 
 -- the same row in other words
 pub row_as : {X : Type 0} (Fits Fits' : X → Type 0) (line line' : X → Row) (one : Row → Option X)
-    → ((x : X) → Fits x → Fits' x) → ((x : X) → Fits' x → Fits x) → ((x : X) → line x ≡ line' x) → IsRow Fits line one → IsRow Fits' line' one
+    → ((x : X) → Fits x → Fits' x) → ((x : X) → Fits' x → Fits x) → ((x : X) → line x ≡ line' x) → IsRow Fits line one
+    → IsRow Fits' line' one
 row_as Fits Fits' line line' one to from same law = record {
   found = λ row x e. let f = law.found row x e in (to x f.0, f.1 ∙ same x);
   again = λ x fits. ap one (sym (same x)) ∙ law.again x (from x fits);

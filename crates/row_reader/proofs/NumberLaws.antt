@@ -1,5 +1,6 @@
 -- The spellings of values are read as these values, and nothing else is read.
-use Rattle.std.proofs.Common.{◌≡◌, ℕ, zero, suc, ◌^◌, ◌<◌, ◌≤◌, Bool, true, false, cond, List, [], ◌∷◌, length, Option, Some, None, Result, Ok, Err, refl, sym, ap, subst, ◌∙◌, arith, decimal}
+use Rattle.std.proofs.Common.{◌≡◌, ℕ, zero, suc, ◌^◌, ◌<◌, ◌≤◌, Bool, true, false, cond, List, [], ◌∷◌, length, Option, Some, None, Result}
+use Rattle.std.proofs.Common.{Ok, Err, refl, sym, ap, subst, ◌∙◌, arith, decimal}
 use Rattle.std.specs.Prelude.{IfSome}
 use Rattle.std.specs.List.{AllByRecursion}
 use Rattle.std.specs.Option.{option_map}
@@ -15,7 +16,8 @@ use Rattle.hex.specs.Hex.{IsBytes, encode_lower, decode_sized, lower_digits}
 use Rattle.hex.specs.declared.error.FromHexError.{FromHexError}
 use Rattle.hex.proofs.HexLemmas.{decode_of-ok, decode_sized-ok, decode_sized-twice, decode_sized-encode_lower, length-encode_with}
 use Rattle.kmp_base.specs.Text.{hex8}
-use Rattle.row_reader.specs.Numbers.{if_spelled, number_of, AreBytes, if_bytes, bytes_of, word_of, dash, word_or_dash, optional_word_of, exactly}
+use Rattle.row_reader.specs.Numbers.{if_spelled, number_of, AreBytes, if_bytes, bytes_of, word_of, dash, word_or_dash, optional_word_of}
+use Rattle.row_reader.specs.Numbers.{exactly}
 use Rattle.row_reader.specs.Fields.{◌>>=◌}
 use Rattle.row_reader.proofs.FieldLaws.{IsField, some_is, bind_some}
 
@@ -70,7 +72,8 @@ decoded_are size text bytes e =
     let f = decode_of-ok text bytes (sym (decode_sized-twice text size long) ∙ e) in
     (omega (arith, f.2), all_bytes bytes f.3)
 
-if_bytes_found : (size : ℕ) (text : List ℕ) (r : Result (List ℕ) FromHexError) (bytes : List ℕ) → decode_sized text size ≡ r → if_bytes text r ≡ Some bytes
+if_bytes_found : (size : ℕ) (text : List ℕ) (r : Result (List ℕ) FromHexError) (bytes : List ℕ) → decode_sized text size ≡ r
+    → if_bytes text r ≡ Some bytes
     → AreBytes size bytes × (text ≡ encode_lower bytes)
 if_bytes_found size text (Ok guess) bytes is e =
     let c = cond_some _ guess bytes e in
@@ -104,11 +107,15 @@ word_is_four bytes are =
     let b3 = each 3 in
     omega (arith, b0, b1, b2, b3)
 
-word_found' : (text : List ℕ) (o : Option (List ℕ)) (n : ℕ) → bytes_of 4 text ≡ o → option_map (from_be_bytes w32) o ≡ Some n → IsWord n × (text ≡ hex8 n)
+word_found' : (text : List ℕ) (o : Option (List ℕ)) (n : ℕ) → bytes_of 4 text ≡ o → option_map (from_be_bytes w32) o ≡ Some n → IsWord n
+    × (text ≡ hex8 n)
 word_found' text (Some bytes) n is e =
     let f = bytes_found 4 text bytes is in
-    let value = some_is (from_be_bytes w32 bytes) n e in
-    (subst IsWord value (word_is_four bytes f.0), f.1 ∙ ap encode_lower (sym (be_bytes_4 bytes n f.0.0 (each_byte bytes f.0.1) (sym value))))
+    let value = some_is (from_be_bytes w32 bytes) n e in (
+      subst IsWord value (word_is_four bytes f.0),
+      f.1
+          ∙ ap encode_lower (sym (be_bytes_4 bytes n f.0.0 (each_byte bytes f.0.1) (sym value))),
+    )
 word_found' text None n is e = absurd cc
 
 pub word_found : (text : List ℕ) (n : ℕ) → word_of text ≡ Some n → IsWord n × (text ≡ hex8 n)
@@ -132,11 +139,14 @@ word_field = record { found = word_found; again = word_again }
 abbrev optional_chosen : Bool → Option ℕ → Option (Option ℕ)
 optional_chosen b o = cond b (Some None) (option_map Some o)
 
-option_word_found : (text : List ℕ) (o : Option ℕ) (x : Option ℕ) → word_of text ≡ o → option_map (λ n. Some n) o ≡ Some x → IfSome x IsWord × (text ≡ word_or_dash x)
-option_word_found text (Some n) x is e = subst (λ y. IfSome y IsWord × (text ≡ word_or_dash y)) (some_is (Some n) x e) (word_found text n is)
+option_word_found : (text : List ℕ) (o : Option ℕ) (x : Option ℕ) → word_of text ≡ o → option_map (λ n. Some n) o ≡ Some x → IfSome x IsWord
+    × (text ≡ word_or_dash x)
+option_word_found text (Some n) x is e =
+    subst (λ y. IfSome y IsWord × (text ≡ word_or_dash y)) (some_is (Some n) x e) (word_found text n is)
 option_word_found text None x is e = absurd cc
 
-optional_found' : (text : List ℕ) (b : Bool) (x : Option ℕ) → bytes_eq text dash ≡ b → optional_chosen b (word_of text) ≡ Some x → IfSome x IsWord × (text ≡ word_or_dash x)
+optional_found' : (text : List ℕ) (b : Bool) (x : Option ℕ) → bytes_eq text dash ≡ b → optional_chosen b (word_of text) ≡ Some x
+    → IfSome x IsWord × (text ≡ word_or_dash x)
 optional_found' text true x is e = subst (λ y. IfSome y IsWord × (text ≡ word_or_dash y)) (some_is None x e) (tt, same_text text dash is)
 optional_found' text false x is e = option_word_found text (word_of text) x refl e
 
@@ -158,7 +168,8 @@ word_not_dash n = not_true _ (λ e.
 pub optional_again : (x : Option ℕ) → IfSome x IsWord → optional_word_of (word_or_dash x) ≡ Some x
 unfolding optional_word_of
 optional_again None fits = refl
-optional_again (Some n) fits = ap (λ b. optional_chosen b (word_of (hex8 n))) (word_not_dash n) ∙ ap (option_map (λ m. Some m)) (word_again n fits)
+optional_again (Some n) fits = ap (λ b. optional_chosen b (word_of (hex8 n))) (word_not_dash n)
+    ∙ ap (option_map (λ m. Some m)) (word_again n fits)
 
 pub optional_field : IsField (λ x. IfSome x IsWord) word_or_dash optional_word_of
 optional_field = record { found = optional_found; again = optional_again }

@@ -1,8 +1,9 @@
 -- A part of one row, and a part with what follows it.
-use Rattle.std.proofs.Common.{◌≡◌, [], ◌∷◌, ◌++◌, Option, Some, None, Result, Ok, Err, refl, sym, ap, subst, ◌∙◌, append_assoc, ◌⊎◌, inl, inr}
+use Rattle.std.proofs.Common.{◌≡◌, [], ◌∷◌, ◌++◌, Option, Some, None, Result, Ok, Err, refl, sym, ap, subst, ◌∙◌, append_assoc, inl, inr}
 use Rattle.std.proofs.lemmas.List.{append-nil}
 use Rattle.row_reader.specs.Rows.{Row, Rows}
 use Rattle.kmp_base.specs.Bind.{◌>>=◌}
+use Rattle.kmp_base.proofs.ReadingLaws.{bind_ok, bind_err}
 use Rattle.row_reader.specs.Reading.{chosen, row_at}
 use Rattle.row_reader.specs.Starts.{Stops, IsPart}
 
@@ -24,16 +25,6 @@ ok_parts {A} a x b y e = let p = ok_is {A = A × Rows} (a, b) (x, y) e in (ap (�
 pub err_is : (A : Type 0) (x y : Rows) → stuck_at A x ≡ stuck_at A y → x ≡ y
 err_is A x y e = cc
 
--- the value of a step that isn't stuck
-pub bind_ok : {A B : Type 0} (r : Result A Rows) (f : A → Result B Rows) (y : B) → (r >>= f) ≡ Ok y → (x : A) × (r ≡ Ok x) × (f x ≡ Ok y)
-bind_ok (Ok x) f y e = (x, refl, e)
-bind_ok (Err d) f y e = absurd cc
-
--- the step that is stuck
-pub bind_err : {A B : Type 0} (r : Result A Rows) (f : A → Result B Rows) (s : Rows) → (r >>= f) ≡ Err s → (r ≡ Err s) ⊎ ((x : A) × (r ≡ Ok x) × (f x ≡ Err s))
-bind_err (Ok x) f s e = inr (x, refl, e)
-bind_err {A} {B} (Err d) f s e = inl (ap (stuck_at A) (err_is B d s e))
-
 -- ---- one row
 
 -- a row that spells a value, in one way
@@ -44,13 +35,15 @@ pub record IsRow {X : Type 0} (Fits : X → Type 0) (line : X → Row) (one : Ro
 abbrev pub one_line : {X : Type 0} → (X → Row) → X → Rows
 one_line line x = line x ∷ []
 
-pub chosen_ok : {X : Type 0} (o : Option X) (row : Row) (rows rest : Rows) (x : X) → chosen o row rows ≡ Ok (x, rest) → (o ≡ Some x) × (rows ≡ rest)
+pub chosen_ok : {X : Type 0} (o : Option X) (row : Row) (rows rest : Rows) (x : X) → chosen o row rows ≡ Ok (x, rest) → (o ≡ Some x)
+    × (rows ≡ rest)
 chosen_ok (Some y) row rows rest x e =
     let p = ok_parts y x rows rest e in
     (ap (λ z. Some z) p.0, p.1)
 chosen_ok None row rows rest x e = absurd cc
 
-pub chosen_err : {X : Type 0} (o : Option X) (row : Row) (rows stuck : Rows) → chosen o row rows ≡ Err stuck → (o ≡ None) × (row ∷ rows ≡ stuck)
+pub chosen_err : {X : Type 0} (o : Option X) (row : Row) (rows stuck : Rows) → chosen o row rows ≡ Err stuck → (o ≡ None)
+    × (row ∷ rows ≡ stuck)
 chosen_err (Some y) row rows stuck e = absurd cc
 chosen_err {X} None row rows stuck e = (refl, err_is (X × Rows) (row ∷ rows) stuck e)
 
@@ -92,7 +85,8 @@ row_stops {X} Fits line one law some (row ∷ rows) stuck e =
     }
 
 -- A row is a part. The value stands where the row is missing.
-pub row_part : {X : Type 0} (Fits : X → Type 0) (line : X → Row) (one : Row → Option X) → IsRow Fits line one → ((x : X) × Fits x) → IsPart Fits (one_line line) (row_at one)
+pub row_part : {X : Type 0} (Fits : X → Type 0) (line : X → Row) (one : Row → Option X) → IsRow Fits line one → ((x : X) × Fits x)
+    → IsPart Fits (one_line line) (row_at one)
 row_part Fits line one law some = record {
   takes = row_takes Fits line one law;
   again = λ x rest fits. ap (λ o. chosen o (line x) rest) (law.again x fits);
@@ -109,19 +103,23 @@ pub record StopsBefore {X : Type 0} (MayFollow : Rows → Type 0) (Fits : X → 
   pub value : X
   pub fits : Fits value
   pub goes_on : (rest : Rows) → MayFollow rest → (next : Row) × (more : Rows) × (spell value ++ rest ≡ front ++ next ∷ more)
-  pub ends : (row : Row) (more : Rows) → stuck ≡ row ∷ more → (x : X) (here there : Rows) → Fits x → MayFollow there → (front ++ row ∷ []) ++ here ≡ spell x ++ there → ⊥
+  pub ends : (row : Row) (more : Rows) → stuck ≡ row ∷ more → (x : X) (here there : Rows) → Fits x → MayFollow there → (front ++ row ∷ [])
+      ++ here ≡ spell x ++ there → ⊥
 
 -- As IsPart, where the end of the part is told by what follows it. What is left behind it may follow,
 -- and so may each front of that with other rows behind it, if the front isn't empty.
-pub record IsPartBefore {X : Type 0} (MayFollow : Rows → Type 0) (Fits : X → Type 0) (spell : X → Rows) (read : Rows → Result (X × Rows) Rows) : Type 0 where
+pub record IsPartBefore {X : Type 0} (MayFollow : Rows → Type 0) (Fits : X → Type 0) (spell : X → Rows)
+    (read : Rows → Result (X × Rows) Rows) : Type 0 where
   pub takes : (rows rest : Rows) (x : X) → read rows ≡ Ok (x, rest) → Fits x × (rows ≡ spell x ++ rest)
-  pub leaves : (rows front others here : Rows) (row : Row) (x : X) → read rows ≡ Ok (x, front ++ row ∷ others) → MayFollow (front ++ row ∷ here)
+  pub leaves : (rows front others here : Rows) (row : Row) (x : X) → read rows ≡ Ok (x, front ++ row ∷ others)
+      → MayFollow (front ++ row ∷ here)
   pub again : (x : X) (rest : Rows) → Fits x → MayFollow rest → read (spell x ++ rest) ≡ Ok (x, rest)
   pub stops : (rows stuck : Rows) → read rows ≡ Err stuck → StopsBefore MayFollow Fits spell rows stuck
   pub some : (x : X) × Fits x
 
 -- anything may follow a part that ends by itself
-pub part_before : {X : Type 0} (Fits : X → Type 0) (spell : X → Rows) (read : Rows → Result (X × Rows) Rows) → IsPart Fits spell read → IsPartBefore (λ rest. Unit {0}) Fits spell read
+pub part_before : {X : Type 0} (Fits : X → Type 0) (spell : X → Rows) (read : Rows → Result (X × Rows) Rows) → IsPart Fits spell read
+    → IsPartBefore (λ rest. Unit {0}) Fits spell read
 part_before Fits spell read part = record {
   takes = part.takes;
   leaves = λ rows front others here row x e. tt;
@@ -133,8 +131,14 @@ part_before Fits spell read part = record {
         are = s.are;
         value = s.begins.value;
         fits = s.begins.fits;
-        goes_on = λ rest follows. (s.begins.next, s.begins.more ++ rest, ap (λ (r : Rows). r ++ rest) s.begins.are ∙ append_assoc s.front (s.begins.next ∷ s.begins.more) rest);
-        ends = λ row more is x here there fits follows e. s.ends row more is (record { value = x; fits = fits; here = here; there = there; are = e });
+        goes_on = λ rest follows. (
+          s.begins.next,
+          s.begins.more ++ rest,
+          ap (λ (r : Rows). r ++ rest) s.begins.are
+              ∙ append_assoc s.front (s.begins.next ∷ s.begins.more) rest,
+        );
+        ends = λ row more is x here there fits follows e. s.ends row more is
+            (record { value = x; fits = fits; here = here; there = there; are = e });
       };
   some = part.some;
 }
@@ -147,7 +151,8 @@ then_fits Fits first FitsMore z = Fits (first z) × FitsMore z
 abbrev pub then_spell : {X Z : Type 0} → (X → Rows) → (Z → X) → (Z → Rows) → Z → Rows
 then_spell spell first spell_more z = spell (first z) ++ spell_more z
 
-abbrev pub then_read : {X Z : Type 0} → (Rows → Result (X × Rows) Rows) → (X → Rows → Result (Z × Rows) Rows) → Rows → Result (Z × Rows) Rows
+abbrev pub then_read : {X Z : Type 0} → (Rows → Result (X × Rows) Rows) → (X → Rows → Result (Z × Rows) Rows) → Rows
+    → Result (Z × Rows) Rows
 then_read read read_more rows = read rows >>= λ p. read_more p.0 p.1
 
 abbrev pub given_fits : {X Z : Type 0} → (Z → X) → (Z → Type 0) → X → Z → Type 0
@@ -157,23 +162,27 @@ module _ {X Z : Type 0} (MayFollow : Rows → Type 0) (Fits : X → Type 0) (spe
     (first : Z → X) (FitsMore : Z → Type 0) (spell_more : Z → Rows) (read_more : X → Rows → Result (Z × Rows) Rows)
     (part : IsPartBefore MayFollow Fits spell read) (follows : (z : Z) (rest : Rows) → FitsMore z → MayFollow (spell_more z ++ rest))
     (more : (x : X) → Fits x → IsPart (given_fits first FitsMore x) spell_more (read_more x)) where
-  section_takes : (rows rest : Rows) (z : Z) → then_read read read_more rows ≡ Ok (z, rest) → then_fits Fits first FitsMore z × (rows ≡ then_spell spell first spell_more z ++ rest)
+  section_takes : (rows rest : Rows) (z : Z) → then_read read read_more rows ≡ Ok (z, rest) → then_fits Fits first FitsMore z
+      × (rows ≡ then_spell spell first spell_more z ++ rest)
   section_takes rows rest z e =
       let b = bind_ok (read rows) (λ p. read_more p.0 p.1) (z, rest) e in
       let t = part.takes rows b.0.1 b.0.0 b.1 in
       let u = (more b.0.0 t.0).takes b.0.1 rest z b.2 in (
         (subst Fits (sym u.0.0) t.0, u.0.1),
-        t.1 ∙ ap (λ (r : Rows). spell b.0.0 ++ r) u.1 ∙ sym (append_assoc (spell b.0.0) (spell_more z) rest) ∙ ap (λ x. (spell x ++ spell_more z) ++ rest) (sym u.0.0),
+        t.1 ∙ ap (λ (r : Rows). spell b.0.0 ++ r) u.1 ∙ sym (append_assoc (spell b.0.0) (spell_more z) rest)
+            ∙ ap (λ x. (spell x ++ spell_more z) ++ rest) (sym u.0.0),
       )
 
-  section_again : (z : Z) (rest : Rows) → then_fits Fits first FitsMore z → then_read read read_more (then_spell spell first spell_more z ++ rest) ≡ Ok (z, rest)
+  section_again : (z : Z) (rest : Rows) → then_fits Fits first FitsMore z
+      → then_read read read_more (then_spell spell first spell_more z ++ rest) ≡ Ok (z, rest)
   section_again z rest fits =
       ap (then_read read read_more) (append_assoc (spell (first z)) (spell_more z) rest)
       ∙ ap (λ r. r >>= λ p. read_more p.0 p.1) (part.again (first z) (spell_more z ++ rest) fits.0 (follows z rest fits.1))
       ∙ (more (first z) fits.0).again z rest (refl, fits.1)
 
   -- the part itself is stuck
-  first_stops : (rows stuck : Rows) → read rows ≡ Err stuck → Stops (then_fits Fits first FitsMore) (then_spell spell first spell_more) rows stuck
+  first_stops : (rows stuck : Rows) → read rows ≡ Err stuck
+      → Stops (then_fits Fits first FitsMore) (then_spell spell first spell_more) rows stuck
   first_stops rows stuck e =
       let s = part.stops rows stuck e in
       let z = (more s.value s.fits).some in
@@ -186,15 +195,18 @@ module _ {X Z : Type 0} (MayFollow : Rows → Type 0) (Fits : X → Type 0) (spe
           fits = (subst Fits (sym z.1.0) s.fits, z.1.1);
           next = on.0;
           more = on.1;
-          are = ap (λ x. spell x ++ spell_more z.0) z.1.0 ∙ ap (λ (r : Rows). spell s.value ++ r) (sym (append-nil (spell_more z.0))) ∙ on.2;
+          are = ap (λ x. spell x ++ spell_more z.0) z.1.0 ∙ ap (λ (r : Rows). spell s.value ++ r) (sym (append-nil (spell_more z.0)))
+              ∙ on.2;
         };
         ends = λ row others is agrees.
-            s.ends row others is (first agrees.value) agrees.here (spell_more agrees.value ++ agrees.there) agrees.fits.0 (follows agrees.value agrees.there agrees.fits.1)
+            s.ends row others is (first agrees.value) agrees.here (spell_more agrees.value ++ agrees.there) agrees.fits.0
+            (follows agrees.value agrees.there agrees.fits.1)
             (agrees.are ∙ append_assoc (spell (first agrees.value)) (spell_more agrees.value) agrees.there);
       }
 
   -- what follows is stuck: rows with the same front have the same part
-  more_stops : (rows rest stuck : Rows) (x : X) → read rows ≡ Ok (x, rest) → read_more x rest ≡ Err stuck → Stops (then_fits Fits first FitsMore) (then_spell spell first spell_more) rows stuck
+  more_stops : (rows rest stuck : Rows) (x : X) → read rows ≡ Ok (x, rest) → read_more x rest ≡ Err stuck
+      → Stops (then_fits Fits first FitsMore) (then_spell spell first spell_more) rows stuck
   more_stops rows rest stuck x e e_more =
       let t = part.takes rows rest x e in
       let s = (more x t.0).stops rest stuck e_more in
@@ -206,16 +218,20 @@ module _ {X Z : Type 0} (MayFollow : Rows → Type 0) (Fits : X → Type 0) (spe
           fits = (subst Fits (sym s.begins.fits.0) t.0, s.begins.fits.1);
           next = s.begins.next;
           more = s.begins.more;
-          are = ap (λ y. spell y ++ spell_more s.begins.value) s.begins.fits.0 ∙ ap (λ (r : Rows). spell x ++ r) s.begins.are ∙ sym (append_assoc (spell x) s.front (s.begins.next ∷ s.begins.more));
+          are = ap (λ y. spell y ++ spell_more s.begins.value) s.begins.fits.0 ∙ ap (λ (r : Rows). spell x ++ r) s.begins.are
+              ∙ sym (append_assoc (spell x) s.front (s.begins.next ∷ s.begins.more));
         };
         ends = λ row others is agrees.
             let tail : Rows = s.front ++ row ∷ agrees.here in
             let left : ((spell x ++ s.front) ++ row ∷ []) ++ agrees.here ≡ spell x ++ tail = simp append_assoc in
             let right = append_assoc (spell (first agrees.value)) (spell_more agrees.value) agrees.there in
-            let kept = part.leaves rows s.front others agrees.here row x (e ∙ ap (λ (r : Rows). Ok (x, r)) (s.are ∙ ap (λ (r : Rows). s.front ++ r) is)) in
+            let kept = part.leaves rows s.front others agrees.here row x
+            (e ∙ ap (λ (r : Rows). Ok (x, r)) (s.are ∙ ap (λ (r : Rows). s.front ++ r) is)) in
             let mine = part.again x tail t.0 kept in
-            let other = part.again (first agrees.value) (spell_more agrees.value ++ agrees.there) agrees.fits.0 (follows agrees.value agrees.there agrees.fits.1) in
-            let both = ok_parts x (first agrees.value) tail (spell_more agrees.value ++ agrees.there) (sym mine ∙ ap read (sym left ∙ agrees.are ∙ right) ∙ other) in
+            let other = part.again (first agrees.value) (spell_more agrees.value ++ agrees.there) agrees.fits.0
+            (follows agrees.value agrees.there agrees.fits.1) in
+            let both = ok_parts x (first agrees.value) tail (spell_more agrees.value ++ agrees.there)
+            (sym mine ∙ ap read (sym left ∙ agrees.are ∙ right) ∙ other) in
             s.ends row others is (record {
               value = agrees.value;
               fits = (sym both.0, agrees.fits.1);
@@ -245,4 +261,5 @@ pub then_part : {X Z : Type 0} (Fits : X → Type 0) (spell : X → Rows) (read 
     → IsPart Fits spell read → ((x : X) → Fits x → IsPart (given_fits first FitsMore x) spell_more (read_more x))
     → IsPart (then_fits Fits first FitsMore) (then_spell spell first spell_more) (then_read read read_more)
 then_part Fits spell read first FitsMore spell_more read_more part more =
-    then_part_before (λ rest. Unit {0}) Fits spell read first FitsMore spell_more read_more (part_before Fits spell read part) (λ z rest fits. tt) more
+    then_part_before (λ rest. Unit {0}) Fits spell read first FitsMore spell_more read_more (part_before Fits spell read part)
+    (λ z rest fits. tt) more

@@ -48,7 +48,8 @@ line_no_feed [] h = All-nil (λ b. is_feed b ≡ false)
 line_no_feed (part ∷ []) h = no_feed part h.0
 line_no_feed (part ∷ next ∷ parts) h =
     let line = line_of (next ∷ parts) in
-    All-append (λ b. is_feed b ≡ false) part (32 ∷ line) (no_feed part h.0) (All-cons (λ b. is_feed b ≡ false) 32 line refl (line_no_feed (next ∷ parts) h.1))
+    All-append (λ b. is_feed b ≡ false) part (32 ∷ line) (no_feed part h.0)
+    (All-cons (λ b. is_feed b ≡ false) 32 line refl (line_no_feed (next ∷ parts) h.1))
 
 -- the parts of a row's line are the row
 parts_again : (row : Row) → IsPlainRow row → parts_of (line_of row) ≡ row
@@ -78,7 +79,8 @@ rows_again (row ∷ rows) h = row_again row (text_of rows) h.0 ∙ ap (λ (r : R
 row_back : (line : List ℕ) → row_text (parts_of line) ≡ line ++ codes "\n"
 row_back line = row_text_is (parts_of line) ∙ ap (λ (t : List ℕ). t ++ codes "\n") (join_with_byte-slice_split 32 line)
 
-pieces_back : (pieces : List (List ℕ)) → AllByRecursion IsPlainRow (rows_of_pieces pieces) → join_with_byte 10 pieces ≡ text_of (rows_of_pieces pieces)
+pieces_back : (pieces : List (List ℕ)) → AllByRecursion IsPlainRow (rows_of_pieces pieces)
+    → join_with_byte 10 pieces ≡ text_of (rows_of_pieces pieces)
 pieces_back [] h = refl
 pieces_back ([] ∷ []) h = refl
 pieces_back ((b ∷ bs) ∷ []) h = absurd h.0

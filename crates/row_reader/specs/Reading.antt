@@ -13,13 +13,13 @@ abbrev pub row_at : {X : Type 0} → (Row → Option X) → Rows → Result (X �
 row_at one [] = Err []
 row_at one (row ∷ rows) = chosen (one row) row rows
 
--- The values of rows that a test marks, as long as such rows come. A number goes along: the first row
+-- The values of rows that pass a test, as long as such rows come. A number goes along: the first row
 -- is read with low, and each one behind it with the number that follows from the value before it.
 abbrev pub many_at : {X : Type 0} → (Row → Bool) → (ℕ → Row → Option X) → (X → ℕ) → ℕ → Rows → Result (List X × Rows) Rows
-many_at mark one next low [] = Ok ([], [])
-many_at mark one next low (row ∷ rows) =
-    if mark row
-    then chosen (one low row) row rows >>= (λ p. many_at mark one next (next p.0) rows >>= λ q. Ok (p.0 ∷ q.0, q.1))
+many_at test one next low [] = Ok ([], [])
+many_at test one next low (row ∷ rows) =
+    if test row
+    then chosen (one low row) row rows >>= (λ p. many_at test one next (next p.0) rows >>= λ q. Ok (p.0 ∷ q.0, q.1))
     else Ok ([], row ∷ rows)
 
 -- one value for each key of a list, in its order

@@ -46,10 +46,10 @@ is_named name [] = false
 is_named name (part ∷ parts) = bytes_eq part name
 
 -- whether the first of some rows passes a test
-abbrev pub begins_marked : (Row → Bool) → Rows → Bool
-begins_marked mark [] = false
-begins_marked mark (row ∷ rows) = mark row
+abbrev pub first_passes : (Row → Bool) → Rows → Bool
+first_passes test [] = false
+first_passes test (row ∷ rows) = test row
 
 -- whether the first of some rows has this name
 abbrev pub begins_named : List ℕ → Rows → Bool
-begins_named name rows = begins_marked (is_named name) rows
+begins_named name rows = first_passes (is_named name) rows

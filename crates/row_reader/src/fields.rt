@@ -1,4 +1,4 @@
-// Values at the front of what is left of a row.
+//! Values at the front of what is left of a row.
 ghost use Rattle.std.specs.Prelude.{◌≡◌, ◌≤◌, ◌↔◌, ℕ, List, Option, length, Some, None, IsTrue, IfSome};
 ghost use Rattle.std.specs.Bool.{OnTrue, OnFalse};
 ghost use Rattle.std.specs.Fn.{FnReturnsAt};

@@ -1,16 +1,22 @@
-// Cutting a text into rows, and a row into parts.
-ghost use Rattle.std.specs.Prelude.{◌≡◌, ◌∷◌, ◌++◌, ◌==◌, ◌<◌, ◌≤◌, min, length, codes, IfSome, IfNone};
+//! Cutting a text into rows, and a row into parts.
+ghost use Rattle.std.specs.Prelude.{◌≡◌, ◌∷◌, ◌++◌, ◌==◌, ◌<◌, ◌≤◌, min, false, length, codes, IfSome, IfNone};
 ghost use Rattle.std.specs.List.{position};
 ghost use Rattle.std.specs.Option.{option_copied};
-ghost use Rattle.row_reader.specs.Rows.{rows_of, is_named, begins_named};
+ghost use Rattle.row_reader.specs.Rows.{rows_of, begins_named};
 ghost use Rattle.row_reader.specs.Fields.{Finds, parts_of, parts_left, part_at, IsCutOff};
+
+use kmp_base::Fault;
 
 /// What is left of a row, without its line feed: none where the row has ended. An empty slice is one
 /// empty part.
 pub type Parts<'a> = Option<&'a [u8]>;
 
+/// Why a value was not read from a text. Its cause is the text from the first row on that doesn't go on as a value of
+/// the wanted kind. It is empty where rows are missing.
+pub type Stuck<'a> = Fault<&'a [u8]>;
+
 // The index of the first such byte.
-fn place(bytes: &[u8], byte: u8) -> Option<usize>
+fn index_of(bytes: &[u8], byte: u8) -> Option<usize>
     ensures { result ≡ position (λ b. b == byte) bytes.now }
 {
     bytes.iter().position(|b| *b == byte)
@@ -25,7 +31,7 @@ pub fn cut_row(text: &[u8]) -> Option<(&[u8], &[u8])>
     ensures shorter { IfSome result (λ cut. length cut.1.now < length text.now) }
     ensures left { IfNone result (length (rows_of text.now) ≡ min 1 (length text.now)) }
 {
-    match place(text, b'\n') {
+    match index_of(text, b'\n') {
         Some(end) => Some((&text[..end], &text[end + 1..])),
         None => None,
     }
@@ -45,27 +51,26 @@ pub fn part(rest: Parts) -> Option<(&[u8], Parts)>
 fn first_part(row: &[u8]) -> (&[u8], Parts)
     ensures { part_at (parts_of row.now) ≡ Some (result.0.now, parts_left (option_copied result.1)) }
 {
-    match place(row, b' ') {
+    match index_of(row, b' ') {
         Some(end) => (&row[..end], Some(&row[end + 1..])),
         None => (row, None),
     }
 }
 
-// Whether the first part of a row is this name.
-fn is_named(row: &[u8], name: &[u8]) -> bool
-    ensures { result ≡ is_named name.now (parts_of row.now) }
+/// The parts behind `name` in the first row, and the text behind that row. None where no whole row comes next whose
+/// first part is `name`.
+pub fn named_row<'a>(text: &'a [u8], name: &[u8]) -> Option<(Parts<'a>, &'a [u8])>
+    ensures none { IfNone result (begins_named name.now (rows_of text.now) ≡ false) }
+    ensures some { IfSome result (λ cut.
+        rows_of text.now ≡ (name.now ∷ parts_left (option_copied cut.0)) ∷ rows_of cut.1.now) }
+    ensures shorter { IfSome result (λ cut. length cut.1.now < length text.now) }
 {
-    let (first, _) = first_part(row);
-    first == name
-}
-
-/// Whether a whole row comes next whose first part is `name`.
-pub fn is_next(text: &[u8], name: &[u8]) -> bool
-    ensures { result ≡ begins_named name.now (rows_of text.now) }
-{
-    match cut_row(text) {
-        Some((row, _)) => is_named(row, name),
-        None => false,
+    let (row, behind) = cut_row(text)?;
+    let (first, parts) = first_part(row);
+    if first == name {
+        Some((parts, behind))
+    } else {
+        None
     }
 }
 

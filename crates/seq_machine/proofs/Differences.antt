@@ -1,8 +1,9 @@
 -- An entry in which no field differs is the one that is due.
 use Rattle.std.proofs.Common.{◌≡◌, ℕ, List, ap, refl, sym, ◌∙◌}
-use Rattle.std.specs.Prelude.{Bool, true, false, not, cond, ◌==◌, Option, Some, None}
+use Rattle.std.specs.Prelude.{Bool, true, false, not, ◌==◌, Some, None}
 use Rattle.std.proofs.lemmas.Option.{none-some}
-use Rattle.std.proofs.lemmas.Bool.{eqb-true, eq-eqb}
+use Rattle.std.proofs.lemmas.Bool.{not-false, eqb-true, eq-eqb}
+use Rattle.std_laws.proofs.OptionLaws.{cond_none_parts}
 use Rattle.access_log.specs.declared.Entry.{Entry}
 use Rattle.mips_isa.specs.declared.Access.{Access}
 use Rattle.access_log.specs.declared.Core.{Core}
@@ -12,27 +13,28 @@ use Rattle.access_log.specs.declared.field.Field.{Field}
 use Rattle.access_log.specs.declared.field.Found.{Found}
 use Rattle.seq_machine.specs.Differences.{first_difference}
 
--- where nothing is told, the test passed, and the rest tells nothing
-passed : {A : Type 0} (test : Bool) (told : A) (rest : Option A) → cond (not test) (Some told) rest ≡ None → (test ≡ true) × (rest ≡ None)
-passed true told rest h = (refl, h)
-passed false told rest h = absurd (none-some told (sym h))
-
 same_unless_told : (entry due : Entry) → entry.core ≡ due.core → entry.nth ≡ due.nth → first_difference entry due ≡ None → entry ≡ due
 unfolding first_difference
 same_unless_told entry due core nth h =
-    let kind = passed (kind_number entry.kind == kind_number due.kind) _ _ h in
-    let addr = passed (entry.addr == due.addr) _ _ kind.1 in
-    let old = passed (entry.old == due.old) _ _ addr.1 in
-    let new = passed (is_same_word entry.new due.new) _ _ old.1 in
+    let kind = cond_none_parts (not (kind_number entry.kind == kind_number due.kind)) _ _ h in
+    let addr = cond_none_parts (not (entry.addr == due.addr)) _ _ kind.1 in
+    let old = cond_none_parts (not (entry.old == due.old)) _ _ addr.1 in
+    let new = cond_none_parts (not (is_same_word entry.new due.new)) _ _ old.1 in
     same_fields entry due core nth
-    (same_kind entry.kind due.kind (eqb-true (kind_number entry.kind) (kind_number due.kind) kind.0))
-    (eqb-true entry.addr due.addr addr.0) (eqb-true entry.old due.old old.0) (same_word entry.new due.new new.0)
+    (same_kind entry.kind due.kind (eqb-true (kind_number entry.kind) (kind_number due.kind) (not-false _ kind.0)))
+    (eqb-true entry.addr due.addr (not-false _ addr.0)) (eqb-true entry.old due.old (not-false _ old.0))
+    (same_word entry.new due.new (not-false _ new.0))
 
 -- nothing is told of an entry that is due
 first_difference-same : (entry : Entry) → first_difference entry entry ≡ None
 unfolding first_difference
 first_difference-same entry =
-    rw (eq-eqb (kind_number entry.kind) (kind_number entry.kind) refl, eq-eqb entry.addr entry.addr refl, eq-eqb entry.old entry.old refl, is_same_word-same entry.new) refl
+    rw (
+      eq-eqb (kind_number entry.kind) (kind_number entry.kind) refl,
+      eq-eqb entry.addr entry.addr refl,
+      eq-eqb entry.old entry.old refl,
+      is_same_word-same entry.new,
+    ) refl
 
 pub told_not_same : (entry due : Entry) (told : Field × Found) → first_difference entry due ≡ Some told → is_same entry due ≡ false
 told_not_same entry due told h =
@@ -50,7 +52,8 @@ pub record IsDue (memory : List ℕ) (entry : Entry) (core : Core) (access : Acc
   pub addr : entry.addr ≡ access.addr
   pub kind : entry.kind ≡ access.kind
 
-is_due : (memory : List ℕ) (entry : Entry) (core : Core) (access : Access) → entry ≡ due memory entry.core core.executed access → IsDue memory entry core access
+is_due : (memory : List ℕ) (entry : Entry) (core : Core) (access : Access) → entry ≡ due memory entry.core core.executed access
+    → IsDue memory entry core access
 unfolding due
 is_due memory entry core access is = record {
   same = rw (← is) (is_same-same entry);

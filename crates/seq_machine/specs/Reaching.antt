@@ -28,10 +28,10 @@ Reaches code bytes n old (AccessAt m) new = (m < n) × (caught_up code bytes m o
 Reaches code bytes n old (StopAt m) new = (m < n) × (caught_up code bytes m old ≡ Some new) × IsAtStop (next_of code bytes new.state)
 Reaches code bytes n old (Passed m) new = (n < m) × (old.executed ≡ m) × (new ≡ old)
 
--- The core in a place of a machine stands where the answer says, and nothing else has changed.
-pub record CatchesUp (old : FlatMachine) (place n : ℕ) (reach : Reach) (new : FlatMachine) : Type 0 where
+-- The core at an index of a machine stands where the answer says, and nothing else has changed.
+pub record CatchesUp (old : FlatMachine) (index n : ℕ) (reach : Reach) (new : FlatMachine) : Type 0 where
   pub before : Core
   pub after : Core
-  pub was : slice_get old.cores place ≡ Some before
+  pub was : slice_get old.cores index ≡ Some before
   pub reaches : Reaches old.code (memory_bytes old) n before reach after
-  pub is : new ≡ with_core old place after
+  pub is : new ≡ with_core old index after

@@ -1,7 +1,7 @@
 //! Reports that no run of the program makes: one of no core, and one of a bus.
 use access_log::{History, Item, Letter, Transaction};
 use image_file::read_image;
-use kmp_base::{MachineKind, MemorySink, Policy, Setup, Turns};
+use kmp_base::{Collected, MachineKind, MemorySink, Policy, Setup, Turns};
 use report_text::{Counts, NoMemory, Report, print_report};
 use std::alloc::Global;
 use std::test::Fail;
@@ -48,6 +48,25 @@ fn each_row_is_one_put(rt: HostRuntime) -> Result<(), Fail> {
         assert!(rt; !is_put);
         assert_eq!(rt; rows, call as usize);
         assert!(rt; rows == 0 || held.ends_with(b"\n"));
+    }
+    Ok(())
+}
+
+/// A report that is collected is few writes, and whichever of them fails, a front of its text is there.
+#[test]
+fn a_report_is_collected(rt: HostRuntime) -> Result<(), Fail> {
+    let report = report(rt.alloc(), History::new(rt.alloc(), 0)?)?;
+    let (_, whole) = put_until(rt.alloc(), &report, 25)?;
+    for call in 0..8u32 {
+        let sink = MemorySink::new(rt.alloc(), 1024, [call].to_vec(rt.alloc())?)?;
+        let Ok(mut collected) = Collected::new(rt.alloc(), 64, sink) else {
+            return Err(Fail::new("no memory"));
+        };
+        let is_put = print_report(&report, &mut collected).is_ok();
+        let (sink, finished) = collected.finish();
+        let writes = whole.len().div_ceil(64);
+        assert!(rt; (is_put && finished.is_ok()) == (writes <= call as usize));
+        assert!(rt; whole.starts_with(&sink.held));
     }
     Ok(())
 }

@@ -70,7 +70,8 @@ pub struct Outcome {
 }
 
 impl Model for Outcome {
-    ghost use Rattle.timetable.specs.Outcome.{OutcomeValue};
+    ghost use Rattle.std.specs.List.{All};
+    ghost use Rattle.timetable.specs.Outcome.{OutcomeValue, IsState};
 
     ghost Value = { OutcomeValue };
 
@@ -79,4 +80,6 @@ impl Model for Outcome {
       words = outcome.words;
       items = outcome.history.items;
     } };
+
+    ghost invariant = { λ outcome. All (λ ended. IsState ended.state) outcome.cores.items };
 }

@@ -9,8 +9,11 @@ returns-in-None-clause-only c difference is =
     absurd (different_is_wrong c.args.report.now difference c.requires.form is c.in-None.ensures.none)
 
 pub returns-clause-agrees : goal.returns-clause-agrees
-returns-clause-agrees c =
-    (λ same. absurd cc, λ right. absurd (different_is_wrong c.args.report.now c.in-Some.difference c.requires.form c.in-Some.ensures.some right))
+returns-clause-agrees c = (
+  λ same. absurd cc,
+  λ right. absurd
+      (different_is_wrong c.args.report.now c.in-Some.difference c.requires.form c.in-Some.ensures.some right),
+)
 
 pub returns-clause-only : goal.returns-clause-only
 returns-clause-only c difference is =

@@ -12,9 +12,11 @@ pub loop-statement-preserved : goal.loop-statement-preserved
 loop-statement-preserved c =
     let inv = c.loop-statement.invariant in
     record {
-      counted = code_counted c.loop-statement.statement-index c.args.statements.now c.statement-item.result c.loop-statement.bytes c.code_size-bytes.result c.loop-statement-test.true c.statement-item.is inv.counted c.code_size-bytes.ensures.value;
+      counted = code_counted c.loop-statement.statement-index c.args.statements.now c.statement-item.result c.loop-statement.bytes
+          c.code_size-bytes.result c.loop-statement-test.true c.statement-item.is inv.counted c.code_size-bytes.ensures.value;
       bound = omega (arith, inv.bound, c.code_size-bytes.ensures.bound);
     }
 
 pub returns-clause-value : goal.returns-clause-value
-returns-clause-value c = c.loop-statement.invariant.counted ∙ ap (λ (ss : List Statement). code_behind ss) (take_all _ c.args.statements.now c.loop-statement-test.false)
+returns-clause-value c = c.loop-statement.invariant.counted
+    ∙ ap (λ (ss : List Statement). code_behind ss) (take_all _ c.args.statements.now c.loop-statement-test.false)

@@ -13,8 +13,11 @@ returns-in-Some c =
     let inv = c.loop-statement.invariant in
     record {
       value = λ known holds.
-          let fails = ap (λ (here : ℕ). operand_fault known here c.statement-item.result.body) (sym inv.counted) ∙ sym (c.operand_fault.ensures.value known holds) ∙ c.in-Some.is in
-          let answer = test_fails (operand_test known) c.loop-statement.statement-index c.args.statements.now c.statement-item.result (c.in-Some.cause, c.statement-item.result.line) c.loop-statement-test.true c.statement-item.is (ap (λ (cause : Option AsmCause). at_line c.statement-item.result.line cause) fails) in
+          let fails = ap (λ (here : ℕ). operand_fault known here c.statement-item.result.body) (sym inv.counted)
+          ∙ sym (c.operand_fault.ensures.value known holds) ∙ c.in-Some.is in
+          let answer = test_fails (operand_test known) c.loop-statement.statement-index c.args.statements.now c.statement-item.result
+          (c.in-Some.cause, c.statement-item.result.line) c.loop-statement-test.true c.statement-item.is
+          (ap (λ (cause : Option AsmCause). at_line c.statement-item.result.line cause) fails) in
           sym answer ∙ inv.read known holds;
     }
 
@@ -22,16 +25,20 @@ pub loop-statement-preserved : goal.loop-statement-preserved
 loop-statement-preserved c =
     let inv = c.loop-statement.invariant in
     record {
-      counted = code_counted c.loop-statement.statement-index c.args.statements.now c.statement-item.result c.loop-statement.here c.code_size-here.result c.loop-statement-test.true c.statement-item.is inv.counted c.code_size-here.ensures.value;
+      counted = code_counted c.loop-statement.statement-index c.args.statements.now c.statement-item.result c.loop-statement.here
+          c.code_size-here.result c.loop-statement-test.true c.statement-item.is inv.counted c.code_size-here.ensures.value;
       bound = omega (arith, inv.bound, c.code_size-here.ensures.bound);
       read = λ known holds.
-          let passes = ap (λ (here : ℕ). operand_fault known here c.statement-item.result.body) (sym inv.counted) ∙ sym (c.operand_fault.ensures.value known holds) ∙ c.in_default.is in
-          sym (test_goes_on (operand_test known) c.loop-statement.statement-index c.args.statements.now c.statement-item.result c.loop-statement-test.true c.statement-item.is passes) ∙ inv.read known holds;
+          let passes = ap (λ (here : ℕ). operand_fault known here c.statement-item.result.body) (sym inv.counted)
+          ∙ sym (c.operand_fault.ensures.value known holds) ∙ c.in_default.is in
+          sym (test_goes_on (operand_test known) c.loop-statement.statement-index c.args.statements.now c.statement-item.result
+          c.loop-statement-test.true c.statement-item.is passes) ∙ inv.read known holds;
     }
 
 pub returns : goal.returns
 returns c =
     let inv = c.loop-statement.invariant in
     record {
-      value = λ known holds. sym (tests_done (operand_test known) c.loop-statement.statement-index c.args.statements.now c.loop-statement-test.false) ∙ inv.read known holds;
+      value = λ known holds. sym (tests_done (operand_test known) c.loop-statement.statement-index c.args.statements.now
+          c.loop-statement-test.false) ∙ inv.read known holds;
     }

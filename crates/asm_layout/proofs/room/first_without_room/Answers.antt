@@ -25,20 +25,30 @@ room_fault-requires-clause-segment c = omega (arith, c.loop-statement.invariant.
 pub returns-in-Some : goal.returns-in-Some
 returns-in-Some c =
     let inv = c.loop-statement.invariant in
-    let fails = ap (λ (place : Place). room_fault c.args.memory place c.statement-item.result.body) (sym inv.stands.is) ∙ sym c.room_fault.ensures.value ∙ c.in-Some.is in
-    let answer = test_fails (room_test c.args.memory c.args.end) c.loop-statement.statement-index c.args.statements.now c.statement-item.result (c.in-Some.cause, c.statement-item.result.line) c.loop-statement-test.true c.statement-item.is (ap (λ (cause : Option AsmCause). at_line c.statement-item.result.line cause) fails) in
+    let fails = ap (λ (place : Place). room_fault c.args.memory place c.statement-item.result.body) (sym inv.stands.is)
+    ∙ sym c.room_fault.ensures.value ∙ c.in-Some.is in
+    let answer = test_fails (room_test c.args.memory c.args.end) c.loop-statement.statement-index c.args.statements.now
+    c.statement-item.result (c.in-Some.cause, c.statement-item.result.line) c.loop-statement-test.true c.statement-item.is
+    (ap (λ (cause : Option AsmCause). at_line c.statement-item.result.line cause) fails) in
     record { value = sym answer ∙ inv.read }
 
 pub loop-statement-preserved : goal.loop-statement-preserved
 loop-statement-preserved c =
     let inv = c.loop-statement.invariant in
-    let passes = ap (λ (place : Place). room_fault c.args.memory place c.statement-item.result.body) (sym inv.stands.is) ∙ sym c.room_fault.ensures.value ∙ c.in_default.is in
+    let passes = ap (λ (place : Place). room_fault c.args.memory place c.statement-item.result.body) (sym inv.stands.is)
+    ∙ sym c.room_fault.ensures.value ∙ c.in_default.is in
     record {
-      stands = moves_on c.args.end c.loop-statement.statement-index c.args.statements.now c.statement-item.result c.loop-statement.place _ c.loop-statement-test.true c.statement-item.is inv.stands c.moved-place.ensures.value c.moved-place.ensures.code c.moved-place.ensures.segment;
-      read = sym (test_goes_on (room_test c.args.memory c.args.end) c.loop-statement.statement-index c.args.statements.now c.statement-item.result c.loop-statement-test.true c.statement-item.is passes) ∙ inv.read;
+      stands = moves_on c.args.end c.loop-statement.statement-index c.args.statements.now c.statement-item.result c.loop-statement.place _
+          c.loop-statement-test.true c.statement-item.is inv.stands c.moved-place.ensures.value c.moved-place.ensures.code
+          c.moved-place.ensures.segment;
+      read = sym (test_goes_on (room_test c.args.memory c.args.end) c.loop-statement.statement-index c.args.statements.now
+          c.statement-item.result c.loop-statement-test.true c.statement-item.is passes) ∙ inv.read;
     }
 
 pub returns : goal.returns
 returns c =
     let inv = c.loop-statement.invariant in
-    record { value = sym (tests_done (room_test c.args.memory c.args.end) c.loop-statement.statement-index c.args.statements.now c.loop-statement-test.false) ∙ inv.read }
+    record {
+      value = sym (tests_done (room_test c.args.memory c.args.end) c.loop-statement.statement-index c.args.statements.now
+          c.loop-statement-test.false) ∙ inv.read;
+    }

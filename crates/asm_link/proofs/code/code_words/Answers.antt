@@ -11,20 +11,35 @@ loop-statement-init c = record {
 
 pub push_code-requires-clause-room : goal.push_code-requires-clause-room
 push_code-requires-clause-room c =
-    omega (arith, c.loop-statement.invariant.at, c.requires.room, code_within c.args.statements.now c.statement-item.result c.loop-statement.statement-index c.loop-statement-test.true c.statement-item.is)
+    omega (
+      arith,
+      c.loop-statement.invariant.at,
+      c.requires.room,
+      code_within c.args.statements.now c.statement-item.result c.loop-statement.statement-index c.loop-statement-test.true
+          c.statement-item.is,
+    )
 
 pub overflow_add-here : goal.overflow_add-here
 overflow_add-here c =
-    omega (arith, c.loop-statement.invariant.at, c.requires.room, c.code_size-here.ensures.value, code_within c.args.statements.now c.statement-item.result c.loop-statement.statement-index c.loop-statement-test.true c.statement-item.is)
+    omega (
+      arith,
+      c.loop-statement.invariant.at,
+      c.requires.room,
+      c.code_size-here.ensures.value,
+      code_within c.args.statements.now c.statement-item.result c.loop-statement.statement-index c.loop-statement-test.true
+          c.statement-item.is,
+    )
 
 pub loop-statement-preserved : goal.loop-statement-preserved
 loop-statement-preserved c =
     let inv = c.loop-statement.invariant in
     record {
-      at = code_counted c.loop-statement.statement-index c.args.statements.now c.statement-item.result c.loop-statement.here c.code_size-here.result c.loop-statement-test.true c.statement-item.is inv.at c.code_size-here.ensures.value;
+      at = code_counted c.loop-statement.statement-index c.args.statements.now c.statement-item.result c.loop-statement.here
+          c.code_size-here.result c.loop-statement-test.true c.statement-item.is inv.at c.code_size-here.ensures.value;
       words = λ known holds.
           let pushed = c.in_ok-push_code.ensures.words known holds in
-          let next = code_goes_on known c.args.statements.now c.statement-item.result c.loop-statement.statement-index c.loop-statement-test.true c.statement-item.is in
+          let next = code_goes_on known c.args.statements.now c.statement-item.result c.loop-statement.statement-index
+          c.loop-statement-test.true c.statement-item.is in
           rw (pushed, inv.at, append_assoc, ← next) (inv.words known holds);
     }
 

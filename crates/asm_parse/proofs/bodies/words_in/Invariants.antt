@@ -1,7 +1,7 @@
 use Rattle.std.proofs.Common.{◌≡◌, length}
 use Rattle.std.specs.Prelude.{All}
 use Rattle.asm_parse.specs.Statements.{words_in, more_words_in, IsProperBody}
-use Rattle.asm_parse.proofs.WordsLemmas.{with_front}
+use Rattle.kmp_base.proofs.ReadingLaws.{with_front}
 use Rattle.asm_parse.proofs.bodies.words_in.Given as goal
 
 abbrev pub invariant-words : goal.invariant-words

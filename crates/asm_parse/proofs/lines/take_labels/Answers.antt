@@ -7,9 +7,11 @@ use Rattle.asm_parse.proofs.lines.take_labels.Goals as goal
 
 pub labels-preserved : goal.labels-preserved
 labels-preserved c =
-    let more : map Label (labels_in c.labels.rest.now) ≡ Label c.in-Some.label.now ∷ map Label (labels_in c.in-Some.behind.now) = ap (map Label) c.in-Some.ensures.labels in
+    let more : map Label (labels_in c.labels.rest.now) ≡ Label c.in-Some.label.now ∷ map Label (labels_in c.in-Some.behind.now) =
+    ap (map Label) c.in-Some.ensures.labels in
     record {
-      labels = rw (c.in_ok-push.ensures.items, c.in_ok-copy.ensures.copy, append_assoc, ← more) c.labels.invariant.labels;
-      proper = rw c.in_ok-push.ensures.items (All-push IsProperBody c.labels.bodies.items (Label c.in_ok-copy.field-0) c.labels.invariant.proper tt);
+      labels = rw (c.in_ok-push.ensures.items, c.copy.ensures.copy, append_assoc, ← more) c.labels.invariant.labels;
+      proper = rw c.in_ok-push.ensures.items
+          (All-push IsProperBody c.labels.bodies.items (Label c.copy.result) c.labels.invariant.proper tt);
       rest = sym c.in-Some.ensures.behind ∙ c.labels.invariant.rest;
     }

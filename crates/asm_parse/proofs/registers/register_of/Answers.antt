@@ -9,4 +9,5 @@ unfolding register_of
 returns-clause-value c = c.named.ensures.first
 
 pub returns-clause-bound : goal.returns-clause-bound
-returns-clause-bound c = subst (λ (o : Option ℕ). IfSome o (λ r. r < 32)) (sym c.named.ensures.first) (found_below 32 register_texts c.args.name.now refl)
+returns-clause-bound c = subst (λ (o : Option ℕ). IfSome o (λ r. r < 32)) (sym c.named.ensures.first)
+    (found_below 32 register_texts c.args.name.now refl)

@@ -8,5 +8,6 @@ use Rattle.asm_parse.proofs.source.add_line.Goals as goal
 pub returns-in_ok-push_all-in-Ok-clause-proper : goal.returns-in_ok-push_all-in-Ok-clause-proper
 returns-in_ok-push_all-in-Ok-clause-proper c =
     rw c.in_ok-push_all-in-Ok.ensures.pushed
-    (All-append (λ (s : Statement). IsProperBody s.body) c.args.statements.now.items (map (on_line c.args.number) c.in-Ok.bodies.items) c.requires.proper
+    (All-append (λ (s : Statement). IsProperBody s.body) c.args.statements.now.items (map (on_line c.args.number) c.in-Ok.bodies.items)
+    c.requires.proper
     (All-map (λ (s : Statement). IsProperBody s.body) (on_line c.args.number) c.in-Ok.bodies.items c.in-Ok.ensures.proper))

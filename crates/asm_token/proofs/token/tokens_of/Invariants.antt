@@ -1,6 +1,6 @@
 use Rattle.std.proofs.Common.{◌≡◌, length}
 use Rattle.asm_token.specs.Tokens.{tokens_from, without_comment}
-use Rattle.asm_token.proofs.TokensLemmas.{with_front}
+use Rattle.kmp_base.proofs.ReadingLaws.{with_front}
 use Rattle.asm_token.proofs.token.tokens_of.Given as goal
 
 abbrev pub invariant-tokens : goal.invariant-tokens

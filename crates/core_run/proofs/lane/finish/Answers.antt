@@ -21,7 +21,8 @@ returns-clause-runs g c =
     let a = c.close_port-access.ensures.met e.access f.access in
     let b = c.close_port-fetch.ensures.met (option_map fetch_of e.fetch) (fetch-held e c.args.lane.now _ _ _ f a) in
     λ h. subst (λ es. HasCome (g.E.CoreEngine.view c.drain_open.new.engine) es) (sym (closed-taken e c.args.lane.now _ _ _ _ _ f a b))
-    (runs-drained g.E.CoreEngine.view g.E.CoreEngine.timed _ c.close_port-access.result _ _ _ _ f.sound c.drain_open.ensures.drained f.access h)
+    (runs-drained g.E.CoreEngine.view g.E.CoreEngine.timed _ c.close_port-access.result _ _ _ _ f.sound c.drain_open.ensures.drained
+    f.access h)
 
 pub returns-clause-ending : goal.returns-clause-ending
 returns-clause-ending g c =
@@ -29,7 +30,8 @@ returns-clause-ending g c =
     let f = c.requires.coupled in
     let a = c.close_port-access.ensures.met e.access f.access in
     let b = c.close_port-fetch.ensures.met (option_map fetch_of e.fetch) (fetch-held e c.args.lane.now _ _ _ f a) in
-    let m = makes-then g.S.CoreSide.serves g.S.CoreSide.makes g.S.CoreSide.leaves_others g.S.CoreSide.paid g.met.S.CoreSide.goes_on g.met.S.CoreSide.adds_up _ _ _ 0 _ _ _ c.close_port-access.ensures.made c.close_port-fetch.ensures.made in (
+    let m = makes-then g.S.CoreSide.serves g.S.CoreSide.makes g.S.CoreSide.leaves_others g.S.CoreSide.paid g.met.S.CoreSide.goes_on
+    g.met.S.CoreSide.adds_up _ _ _ 0 _ _ _ c.close_port-access.ensures.made c.close_port-fetch.ensures.made in (
       c.close_port-access.result,
       (
         c.close_port-fetch.result,

@@ -8,9 +8,9 @@ loop-init g c = record {
   lawful = c.requires.lawful;
   kept = (stays-view 0 _).kept;
   count = refl;
-  seats = c.requires.seats;
+  slots = c.requires.slots;
   made = leads-none g.M.MemoryCore.makes _;
-  served = λ paces served. (paces, served);
+  served = λ histories served. (histories, served);
 }
 
 pub loop-preserved : goal.loop-preserved
@@ -21,17 +21,17 @@ loop-preserved g c =
       lawful = f.lawful;
       kept = kept_twice l.invariant.kept f.kept;
       count = f.cores ∙ l.invariant.count;
-      seats = f.seats l.counter l.invariant.seats;
+      slots = f.slots l.counter l.invariant.slots;
       made = leads-twice g.M.MemoryCore.makes c.args.memory.now l.memory c.play_round.new.memory l.invariant.made f.made;
-      served = λ paces served. (let h = l.invariant.served paces served in f.served l.counter h.0 l.invariant.seats h.1);
+      served = λ histories served. (let h = l.invariant.served histories served in f.served l.counter h.0 l.invariant.slots h.1);
     }
 
-pub returns-clause-seats : goal.returns-clause-seats
-returns-clause-seats g c core s got =
+pub returns-clause-slots : goal.returns-clause-slots
+returns-clause-slots g c core s got =
     let done : c.loop.counter ≡ c.args.budget = omega arith in
-    rw done at c.loop.invariant.seats core s got
+    rw done at c.loop.invariant.slots core s got
 
 pub returns-clause-served : goal.returns-clause-served
-returns-clause-served g c paces served =
+returns-clause-served g c histories served =
     let done : c.loop.counter ≡ c.args.budget = omega arith in
-    rw done at c.loop.invariant.served paces served
+    rw done at c.loop.invariant.served histories served

@@ -1,8 +1,8 @@
 use Rattle.std.proofs.Common.{◌≡◌, ℕ, vec_len}
 use Rattle.mem_port.specs.Memory.{IsLawful, Keeps}
-use Rattle.mem_port.specs.Pace.{Pace}
+use Rattle.mem_port.specs.ServiceHistory.{ServiceHistory}
 use Rattle.core_run.specs.Serial.{Leads, AreServed}
-use Rattle.core_run.proofs.RoundLemmas.{AreSeated}
+use Rattle.core_run.proofs.RoundLemmas.{AreInSlots}
 use Rattle.core_run.proofs.serial.play_all.Given as goal
 
 abbrev pub invariant-loop : goal.invariant-loop
@@ -13,9 +13,9 @@ invariant-loop g l =
     record {
       lawful : IsLawful new;
       kept : Keeps old new;
-      count : vec_len l.seats ≡ vec_len l.fn.seats;
-      seats : AreSeated view (λ core. l.counter) l.budget new l.seats.items;
+      count : vec_len l.slots ≡ vec_len l.fn.slots;
+      slots : AreInSlots view (λ core. l.counter) l.budget new l.slots.items;
       made : Leads g.M.MemoryCore.makes l.fn.memory l.memory;
-      served : (paces : ℕ → Pace) → AreServed view g.E.CoreEngine.timed 0 0 old l.fn.seats.items paces
-          → (after : ℕ → Pace) × AreServed view g.E.CoreEngine.timed l.counter 0 new l.seats.items after;
+      served : (histories : ℕ → ServiceHistory) → AreServed view g.E.CoreEngine.timed 0 0 old l.fn.slots.items histories
+          → (after : ℕ → ServiceHistory) × AreServed view g.E.CoreEngine.timed l.counter 0 new l.slots.items after;
     }

@@ -25,7 +25,10 @@ returns-in_err-put g c =
     let rest = c.next_number.new.self in
     let p = err_from_is_err_and c.from_residual.result c.from_residual.ensures.1 in
     let all = bytes_of_all _ before.0 rest c.in-Some.number _ c.to_le_bytes.ensures (one_more before.0 before.1 c.in-Some.ensures.some) in
-    rw p.1 (record { writes = writes_as all (writes_stop (flat_map (to_le_bytes w32) rest) (writes_then before.2 c.in_err-put.ensures.writes)) })
+    rw p.1 (record {
+      writes = writes_as all
+          (writes_stop (flat_map (to_le_bytes w32) rest) (writes_then before.2 c.in_err-put.ensures.writes));
+    })
 
 pub returns : goal.returns
 unfolding image_bytes

@@ -10,7 +10,8 @@ use Rattle.image_file.proofs.write.write_image.Given as goal
 abbrev pub invariant-loop-number : goal.invariant-loop-number
 invariant-loop-number g l =
     (written : List ℕ) × (image_numbers l.image ≡ written ++ l.numbers)
-    × Writes {T = Unit {0}} {E = WriteFault} g.K.Sink.held g.K.Sink.faults l.initial.sink l.sink (Ok tt) (flat_map (to_le_bytes w32) written)
+    × Writes {T = Unit {0}} {E = WriteFault} g.K.Sink.held g.K.Sink.faults l.initial.sink l.sink (Ok tt)
+    (flat_map (to_le_bytes w32) written)
 
 abbrev pub decreases-loop-number : goal.decreases-loop-number
 decreases-loop-number g l = length l.numbers

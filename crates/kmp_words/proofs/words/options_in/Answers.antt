@@ -6,6 +6,7 @@ pub loop-text-preserved : goal.loop-text-preserved
 loop-text-preserved c =
     let put = sym c.in_ok-options.ensures.value in
     record {
-      read = sym (options_go_on c.args.command c.loop-text.word c.loop-text.options c.in_ok-options.options c.args.texts.now c.loop-text.text-index _ (omega arith) put) ∙ c.loop-text.invariant.read;
+      read = sym (options_go_on c.args.command c.loop-text.word c.loop-text.options c.in_ok-options.options c.args.texts.now
+          c.loop-text.text-index _ (omega arith) put) ∙ c.loop-text.invariant.read;
       number = omega (arith, counts c.args.command c.loop-text.word _ c.loop-text.options c.in_ok-options.options put);
     }

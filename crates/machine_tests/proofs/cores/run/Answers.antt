@@ -1,8 +1,8 @@
 use Rattle.std.proofs.Common.{refl, sym, ◌∙◌, arith}
 use Rattle.machine_tests.proofs.cores.run.Goals as goal
 
-pub run_seats-requires-clause-fresh : goal.run_seats-requires-clause-fresh
-run_seats-requires-clause-fresh c =
+pub run_slots-requires-clause-fresh : goal.run_slots-requires-clause-fresh
+run_slots-requires-clause-fresh c =
     let fresh = c.in_ok-memory.ensures.fresh _ _ _ _ c.in_ok-flat.ensures.fresh in
     record {
       lawful = fresh.lawful;
@@ -15,12 +15,12 @@ run_seats-requires-clause-fresh c =
       idle = fresh.idle;
     }
 
-pub run_seats-requires-clause-cores : goal.run_seats-requires-clause-cores
-run_seats-requires-clause-cores c =
+pub run_slots-requires-clause-cores : goal.run_slots-requires-clause-cores
+run_slots-requires-clause-cores c =
     let fresh = c.in_ok-memory.ensures.fresh _ _ _ _ c.in_ok-flat.ensures.fresh in
-    c.in_ok-seats.ensures.count ∙ sym fresh.cores_are
+    c.in_ok-slots.ensures.count ∙ sym fresh.cores_are
 
-pub run_seats-requires-clause-seats : goal.run_seats-requires-clause-seats
-run_seats-requires-clause-seats c core s got =
+pub run_slots-requires-clause-slots : goal.run_slots-requires-clause-slots
+run_slots-requires-clause-slots c core s got =
     let fresh = c.in_ok-memory.ensures.fresh _ _ _ _ c.in_ok-flat.ensures.fresh in
-    rw (fresh.image_is, fresh.cores_are) (c.in_ok-seats.ensures.seats c.args.budget (omega (arith, c.requires.budget)) core s got)
+    rw (fresh.image_is, fresh.cores_are) (c.in_ok-slots.ensures.slots c.args.budget (omega (arith, c.requires.budget)) core s got)

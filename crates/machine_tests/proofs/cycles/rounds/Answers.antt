@@ -9,7 +9,8 @@ turn-requires-in-loop g c = record {
 
 pub loop-preserved : goal.loop-preserved
 loop-preserved g c = record {
-  first = works-beside _ c.turn.ensures.works c.turn-in-loop.ensures.works.lawful (λ e. c.loop.invariant.apart (sym c.turn.ensures.core ∙ e)) c.turn-in-loop.ensures.others;
+  first = works-beside _ c.turn.ensures.works c.turn-in-loop.ensures.works.lawful
+      (λ e. c.loop.invariant.apart (sym c.turn.ensures.core ∙ e)) c.turn-in-loop.ensures.others;
   second = c.turn-in-loop.ensures.works;
   apart = λ e. c.loop.invariant.apart (sym c.turn.ensures.core ∙ (e ∙ c.turn-in-loop.ensures.core));
 }

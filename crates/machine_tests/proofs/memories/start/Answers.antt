@@ -3,6 +3,6 @@ use Rattle.machine_tests.proofs.ScriptLaws.{fits-fresh}
 use Rattle.machine_tests.proofs.memories.start.Goals as goal
 
 pub returns : goal.returns
-returns g c = record {
+returns c = record {
   fits = fits-fresh _ _ _ _ (c.in_ok-new.ensures.fresh _ _ _ _ c.in_ok-memory.ensures.fresh) (omega arith) (omega arith);
 }

@@ -7,5 +7,6 @@ returns c =
     record {
       value =
           rw (c.from.ensures, c.from-2.ensures, c.from-3.ensures)
-          (immediate_bits c.args.opcode c.args.rs c.args.rt c.args.imm c.requires.opcode_fits c.requires.rs_fits c.requires.rt_fits (omega arith));
+          (immediate_bits c.args.opcode c.args.rs c.args.rt c.args.imm c.requires.opcode_fits c.requires.rs_fits c.requires.rt_fits
+          (omega arith));
     }

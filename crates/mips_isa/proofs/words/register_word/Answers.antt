@@ -6,5 +6,6 @@ returns c =
     record {
       value =
           rw (c.from.ensures, c.from-2.ensures, c.from-3.ensures, c.from-4.ensures)
-          (register_bits c.args.opcode c.args.rs c.args.rt c.args.rd c.args.sa c.args.function c.requires.opcode_fits c.requires.rs_fits c.requires.rt_fits c.requires.rd_fits c.requires.sa_fits c.requires.function_fits);
+          (register_bits c.args.opcode c.args.rs c.args.rt c.args.rd c.args.sa c.args.function c.requires.opcode_fits c.requires.rs_fits
+          c.requires.rt_fits c.requires.rd_fits c.requires.sa_fits c.requires.function_fits);
     }

@@ -6,7 +6,8 @@ use Rattle.replayer.proofs.cores.registers_difference.Goals as goal
 pub returns-then-kept-i : goal.returns-then-kept-i
 returns-then-kept-i c =
     ap Some c.word.ensures
-    ∙ registers_differ c.args.line c.args.kept.now.regs c.args.due.now.regs c.loop-i.i c.loop-i-test.true c.if-kept-i.true c.loop-i.invariant
+    ∙ registers_differ c.args.line c.args.kept.now.regs c.args.due.now.regs c.loop-i.i c.loop-i-test.true c.if-kept-i.true
+    c.loop-i.invariant
 
 pub loop-i-preserved : goal.loop-i-preserved
 loop-i-preserved c =

@@ -11,4 +11,5 @@ returns-in-Some c =
     let kept = c.args.kept.now in
     let used : c.from.result + c.from-2.result ≡ there.executed + c.args.accesses = omega arith in
     let judged = end_judged c.args.line c.args.budget (end_value kept) (there.executed + c.args.accesses) there c.args.next.now in
-    sym (first_before judged (registers_judged (c.args.line + 1) kept.state.regs there.state.regs) c.in-Some.difference (sym (rw used at c.in-Some.ensures)))
+    sym (first_before judged (registers_judged (c.args.line + 1) kept.state.regs there.state.regs) c.in-Some.difference
+    (sym (rw used at c.in-Some.ensures)))

@@ -34,7 +34,8 @@ returns-in-Some c =
     let report = c.args.report.now in
     let machine = c.args.machine.now in
     sym (first_before (cores report machine ++ words report machine) (counts report) c.in-Some.difference
-    (first_before (cores report machine) (words report machine) c.in-Some.difference (sym (rw c.cores_line.ensures at c.in-Some.ensures.first))))
+    (first_before (cores report machine) (words report machine) c.in-Some.difference
+    (sym (rw c.cores_line.ensures at c.in-Some.ensures.first))))
 
 pub words_difference-requires-clause-lines : goal.words_difference-requires-clause-lines
 words_difference-requires-clause-lines c =
@@ -70,5 +71,6 @@ returns c =
     let none_before : first_told (cores report machine ++ words report machine) ≡ None =
     first_behind (cores report machine) (words report machine) (sym (rw c.cores_line.ensures at c.in_default.ensures.first))
     ∙ sym (rw (c.words_line-line.ensures, words_are, code_is, c.in_default.ensures.memory) at c.in_default-words_difference.ensures) in
-    let told : c.counts_difference.result ≡ first_told (counts report) = rw (c.counts_line.ensures, due_is, counts_are) at c.counts_difference.ensures in
+    let told : c.counts_difference.result ≡ first_told (counts report) =
+    rw (c.counts_line.ensures, due_is, counts_are) at c.counts_difference.ensures in
     told ∙ sym (first_behind (cores report machine ++ words report machine) (counts report) none_before)

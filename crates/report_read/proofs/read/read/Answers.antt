@@ -7,12 +7,14 @@ use Rattle.report_text.specs.Report.{ReportValue}
 use Rattle.report_read.specs.Reading.{report_at, whole, read_of}
 use Rattle.report_read.proofs.read.read.Goals as goal
 
-ends_here : (rows : Rows) (r : ReportValue) (text : List ℕ) → report_at rows ≡ Ok (r, rows_of text) → (length text == 0) ≡ true → read_of rows ≡ Ok r
+ends_here : (rows : Rows) (r : ReportValue) (text : List ℕ) → report_at rows ≡ Ok (r, rows_of text) → (length text == 0) ≡ true
+    → read_of rows ≡ Ok r
 unfolding read_of
 ends_here rows r [] e empty = ap (λ y. y >>= λ p. whole p.0 p.1) e ∙ ap (whole r) rows_empty
 ends_here rows r (x ∷ xs) e empty = absurd (omega (arith, eqb-true (length (x ∷ xs)) 0 empty))
 
-goes_on : (rows : Rows) (r : ReportValue) (text : List ℕ) → report_at rows ≡ Ok (r, rows_of text) → (length text == 0) ≡ false → read_of rows ≡ Err (rows_of text)
+goes_on : (rows : Rows) (r : ReportValue) (text : List ℕ) → report_at rows ≡ Ok (r, rows_of text) → (length text == 0) ≡ false
+    → read_of rows ≡ Err (rows_of text)
 unfolding read_of
 goes_on rows r [] e some = absurd cc
 goes_on rows r (x ∷ xs) e some =
@@ -21,8 +23,10 @@ goes_on rows r (x ∷ xs) e some =
 
 pub returns-then-is_empty : goal.returns-then-is_empty
 returns-then-is_empty c =
-    ends_here (rows_of c.args.text.now) c.in_ok-report.report c.in_ok-report.rest.now c.in_ok-report.ensures (sym c.is_empty.ensures ∙ c.if-is_empty.true)
+    ends_here (rows_of c.args.text.now) c.in_ok-report.report c.in_ok-report.rest.now c.in_ok-report.ensures
+    (sym c.is_empty.ensures ∙ c.if-is_empty.true)
 
 pub returns-else-is_empty : goal.returns-else-is_empty
 returns-else-is_empty c =
-    goes_on (rows_of c.args.text.now) c.in_ok-report.report c.in_ok-report.rest.now c.in_ok-report.ensures (sym c.is_empty.ensures ∙ c.if-is_empty.false)
+    goes_on (rows_of c.args.text.now) c.in_ok-report.report c.in_ok-report.rest.now c.in_ok-report.ensures
+    (sym c.is_empty.ensures ∙ c.if-is_empty.false)

@@ -9,7 +9,8 @@ few_stuck : (rows stuck : Rows) → IsStuckAt rows stuck → length stuck ≤ le
 few_stuck rows stuck at = omega (arith, ap length at.are, length-append at.front stuck)
 
 -- the first of them is the bad one
-bad_row : (rows stuck : Rows) (all rest : ℕ) → all ≡ length rows → rest ≡ length stuck → IsStuckAt rows stuck → IsBadRow rows (all - rest + 1)
+bad_row : (rows stuck : Rows) (all rest : ℕ) → all ≡ length rows → rest ≡ length stuck → IsStuckAt rows stuck
+    → IsBadRow rows (all - rest + 1)
 bad_row rows stuck all rest all_is rest_is at = record {
   front = at.front;
   others = stuck;
@@ -22,8 +23,8 @@ bad_row rows stuck all rest all_is rest_is at = record {
 
 pub overflow_sub-line : goal.overflow_sub-line
 overflow_sub-line c =
-    let e = rw c.in-Err-At.field-0-is at c.in-Err-At.ensures in
-    omega (arith, few_stuck _ _ (report_stuck (rows_of c.args.bytes.now) (rows_of c.in-Err-At.rest.now) e))
+    let e = rw c.in-Err-Cause.field-0-is at c.in-Err-Cause.ensures in
+    omega (arith, few_stuck _ _ (report_stuck (rows_of c.args.bytes.now) (rows_of c.in-Err-Cause.rest.now) e))
 
 pub returns-in-Ok-clause-found : goal.returns-in-Ok-clause-found
 returns-in-Ok-clause-found c =
@@ -35,13 +36,15 @@ returns-in-Ok-clause-only c = λ report is spelled.
     let read = report_read (rows_of c.args.bytes.now) report is (rows_of_report c.args.bytes.now report is spelled) in
     cc (read, c.in-Ok.ensures)
 
-pub returns-in-Err-At-clause-only : goal.returns-in-Err-At-clause-only
-returns-in-Err-At-clause-only c = λ report is spelled.
-    let e = rw c.in-Err-At.field-0-is at c.in-Err-At.ensures in
-    (report_stuck (rows_of c.args.bytes.now) (rows_of c.in-Err-At.rest.now) e).none report is (rows_of_report c.args.bytes.now report is spelled)
+pub returns-in-Err-Cause-clause-only : goal.returns-in-Err-Cause-clause-only
+returns-in-Err-Cause-clause-only c = λ report is spelled.
+    let e = rw c.in-Err-Cause.field-0-is at c.in-Err-Cause.ensures in
+    (report_stuck (rows_of c.args.bytes.now) (rows_of c.in-Err-Cause.rest.now) e).none report is
+    (rows_of_report c.args.bytes.now report is spelled)
 
-pub returns-in-Err-At-clause-bad : goal.returns-in-Err-At-clause-bad
-returns-in-Err-At-clause-bad c =
-    let e = rw c.in-Err-At.field-0-is at c.in-Err-At.ensures in
-    bad_row (rows_of c.args.bytes.now) (rows_of c.in-Err-At.rest.now) c.row_count.result c.row_count-in-Err-At.result c.row_count.ensures.rows c.row_count-in-Err-At.ensures.rows
-    (report_stuck (rows_of c.args.bytes.now) (rows_of c.in-Err-At.rest.now) e)
+pub returns-in-Err-Cause-clause-bad : goal.returns-in-Err-Cause-clause-bad
+returns-in-Err-Cause-clause-bad c =
+    let e = rw c.in-Err-Cause.field-0-is at c.in-Err-Cause.ensures in
+    bad_row (rows_of c.args.bytes.now) (rows_of c.in-Err-Cause.rest.now) c.row_count.result c.row_count-in-Err-Cause.result
+    c.row_count.ensures.rows c.row_count-in-Err-Cause.ensures.rows
+    (report_stuck (rows_of c.args.bytes.now) (rows_of c.in-Err-Cause.rest.now) e)

@@ -8,4 +8,5 @@ use Rattle.report_text.proofs.print.print_cores.Given as goal
 
 abbrev pub invariant-loop-i : goal.invariant-loop-i
 invariant-loop-i g l =
-    Writes {T = Unit {0}} {E = WriteFault} g.K.Sink.held g.K.Sink.faults l.initial.sink l.sink (Ok tt) (text_of (rows_of_ends 0 (take l.i l.cores)))
+    Writes {T = Unit {0}} {E = WriteFault} g.K.Sink.held g.K.Sink.faults l.initial.sink l.sink (Ok tt)
+    (text_of (rows_of_ends 0 (take l.i l.cores)))

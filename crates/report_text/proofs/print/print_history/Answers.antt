@@ -7,8 +7,10 @@ use Rattle.report_text.proofs.print.print_history.Goals as goal
 pub returns-in_err-put : goal.returns-in_err-put
 returns-in_err-put g c =
     let p = err_from_is_err_and c.from_residual.result c.from_residual.ensures.1 in
-    rw p.1 (rows_cut item_row c.args.items.now c.loop-item.item-index _ (omega arith) (c.bytes.ensures.bytes ∙ c.item.ensures.row) c.loop-item.invariant c.in_err-put.ensures.writes)
+    rw p.1 (rows_cut item_row c.args.items.now c.loop-item.item-index _ (omega arith) (c.bytes.ensures.bytes ∙ c.item.ensures.row)
+    c.loop-item.invariant c.in_err-put.ensures.writes)
 
 pub loop-item-preserved : goal.loop-item-preserved
 loop-item-preserved g c =
-    rows_next item_row c.args.items.now c.loop-item.item-index _ (omega arith) (c.bytes.ensures.bytes ∙ c.item.ensures.row) c.loop-item.invariant c.in_ok-put.ensures.writes
+    rows_next item_row c.args.items.now c.loop-item.item-index _ (omega arith) (c.bytes.ensures.bytes ∙ c.item.ensures.row)
+    c.loop-item.invariant c.in_ok-put.ensures.writes

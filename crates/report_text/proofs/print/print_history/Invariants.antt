@@ -8,4 +8,5 @@ use Rattle.report_text.proofs.print.print_history.Given as goal
 
 abbrev pub invariant-loop-item : goal.invariant-loop-item
 invariant-loop-item g l =
-    Writes {T = Unit {0}} {E = WriteFault} g.K.Sink.held g.K.Sink.faults l.initial.sink l.sink (Ok tt) (text_of (map item_row (take l.item-index l.items)))
+    Writes {T = Unit {0}} {E = WriteFault} g.K.Sink.held g.K.Sink.faults l.initial.sink l.sink (Ok tt)
+    (text_of (map item_row (take l.item-index l.items)))

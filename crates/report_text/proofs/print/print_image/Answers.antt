@@ -12,14 +12,16 @@ pub returns-in_err-put : goal.returns-in_err-put
 unfolding image_rows
 returns-in_err-put g c =
     let p = err_from_is_err_and c.from_residual.result c.from_residual.ensures.1 in
-    let size = c.bytes.ensures.bytes ∙ c.number.ensures.row ∙ ap (λ n. row_text (number_row (codes "image") n)) (c.from.ensures ∙ c.image_size-size.ensures.size) in
+    let size = c.bytes.ensures.bytes ∙ c.number.ensures.row
+    ∙ ap (λ n. row_text (number_row (codes "image") n)) (c.from.ensures ∙ c.image_size-size.ensures.size) in
     rw p.1 (writes_stop _ (writes_as size c.in_err-put.ensures.writes))
 
 pub returns : goal.returns
 unfolding image_rows
 returns g c =
     let bytes = image_bytes c.args.image.now in
-    let size = c.bytes.ensures.bytes ∙ c.number.ensures.row ∙ ap (λ n. row_text (number_row (codes "image") n)) (c.from.ensures ∙ c.image_size-size.ensures.size) in
+    let size = c.bytes.ensures.bytes ∙ c.number.ensures.row
+    ∙ ap (λ n. row_text (number_row (codes "image") n)) (c.from.ensures ∙ c.image_size-size.ensures.size) in
     let count : c.div_ceil.result ≡ (length bytes + 31) / 32 = omega (arith, c.div_ceil.ensures, c.image_size-size.ensures.size) in
     let rows = ap (λ n. text_of (map (bytes_row_at bytes) (range_with_len 0 n))) count in
     writes_then (writes_as size c.in_ok-put.ensures.writes) (writes_as rows c.print_image_rows.ensures)

@@ -11,5 +11,6 @@ use Rattle.report_text.proofs.print.print_image_rows.Given as goal
 abbrev pub invariant-loop : goal.invariant-loop
 invariant-loop g l = record {
   left : l.numbers ≡ drop (8 * l.counter) (image_numbers l.image);
-  writes : Writes {T = Unit {0}} {E = WriteFault} g.K.Sink.held g.K.Sink.faults l.initial.sink l.sink (Ok tt) (text_of (map (bytes_row_at (image_bytes l.image)) (take l.counter (range_with_len 0 l.rows))));
+  writes : Writes {T = Unit {0}} {E = WriteFault} g.K.Sink.held g.K.Sink.faults l.initial.sink l.sink (Ok tt)
+      (text_of (map (bytes_row_at (image_bytes l.image)) (take l.counter (range_with_len 0 l.rows))));
 }

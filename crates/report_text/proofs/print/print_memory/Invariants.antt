@@ -8,4 +8,5 @@ use Rattle.report_text.proofs.print.print_memory.Given as goal
 
 abbrev pub invariant-loop-word : goal.invariant-loop-word
 invariant-loop-word g l =
-    Writes {T = Unit {0}} {E = WriteFault} g.K.Sink.held g.K.Sink.faults l.initial.sink l.sink (Ok tt) (text_of (map memory_row (take l.word-index l.words)))
+    Writes {T = Unit {0}} {E = WriteFault} g.K.Sink.held g.K.Sink.faults l.initial.sink l.sink (Ok tt)
+    (text_of (map memory_row (take l.word-index l.words)))

@@ -9,13 +9,21 @@ use Rattle.report_text.proofs.print.print_outcome.Goals as goal
 pub returns-in_err-print_cores : goal.returns-in_err-print_cores
 returns-in_err-print_cores g c =
     let p = err_from_is_err_and c.from_residual.result c.from_residual.ensures.1 in
-    rw (p.1, ← c.report.view_is, text_of-append, text_of-append) (writes_stop _ (writes_stop _ (writes_as (ap (λ cores. text_of (rows_of_ends 0 cores)) c.deref.ensures.value) c.in_err-print_cores.ensures)))
+    rw (p.1, ← c.report.view_is, text_of-append, text_of-append)
+    (writes_stop _ (writes_stop _ (writes_as (ap (λ cores. text_of (rows_of_ends 0 cores)) c.deref.ensures.value)
+    c.in_err-print_cores.ensures)))
 
 pub returns-in_err-print_memory : goal.returns-in_err-print_memory
 returns-in_err-print_memory g c =
     let p = err_from_is_err_and c.from_residual-in_err-print_memory.result c.from_residual-in_err-print_memory.ensures.1 in
-    rw (p.1, ← c.report.view_is, text_of-append, text_of-append) (writes_stop _ (writes_then (writes_as (ap (λ cores. text_of (rows_of_ends 0 cores)) c.deref.ensures.value) c.in_ok-print_cores.ensures) (writes_as (ap (λ words. text_of (map memory_row words)) c.deref-2.ensures.value) c.in_err-print_memory.ensures)))
+    rw (p.1, ← c.report.view_is, text_of-append, text_of-append)
+    (writes_stop _ (writes_then (writes_as (ap (λ cores. text_of (rows_of_ends 0 cores)) c.deref.ensures.value)
+    c.in_ok-print_cores.ensures) (writes_as (ap (λ words. text_of (map memory_row words)) c.deref-2.ensures.value)
+    c.in_err-print_memory.ensures)))
 
 pub returns : goal.returns
 returns g c =
-    rw (← c.report.view_is, text_of-append, text_of-append) (writes_then (writes_then (writes_as (ap (λ cores. text_of (rows_of_ends 0 cores)) c.deref.ensures.value) c.in_ok-print_cores.ensures) (writes_as (ap (λ words. text_of (map memory_row words)) c.deref-2.ensures.value) c.in_ok-print_memory.ensures)) c.print_counts.ensures)
+    rw (← c.report.view_is, text_of-append, text_of-append)
+    (writes_then (writes_then (writes_as (ap (λ cores. text_of (rows_of_ends 0 cores)) c.deref.ensures.value)
+    c.in_ok-print_cores.ensures) (writes_as (ap (λ words. text_of (map memory_row words)) c.deref-2.ensures.value)
+    c.in_ok-print_memory.ensures)) c.print_counts.ensures)

@@ -14,9 +14,11 @@ pub returns-in_err-print_outcome : goal.returns-in_err-print_outcome
 unfolding report_rows report_text
 returns-in_err-print_outcome g c =
     let p = err_from_is_err_and c.from_residual-in_err-print_outcome.result c.from_residual-in_err-print_outcome.ensures.1 in
-    rw (p.1, text_of-append, text_of-append) (record { writes = writes_stop _ (writes_then c.in_ok-print_run.ensures c.in_err-print_outcome.ensures) })
+    rw (p.1, text_of-append, text_of-append)
+    (record { writes = writes_stop _ (writes_then c.in_ok-print_run.ensures c.in_err-print_outcome.ensures) })
 
 pub returns : goal.returns
 unfolding report_rows report_text
 returns g c =
-    rw (text_of-append, text_of-append) (record { writes = writes_then (writes_then c.in_ok-print_run.ensures c.in_ok-print_outcome.ensures) c.put.ensures.writes })
+    rw (text_of-append, text_of-append)
+    (record { writes = writes_then (writes_then c.in_ok-print_run.ensures c.in_ok-print_outcome.ensures) c.put.ensures.writes })

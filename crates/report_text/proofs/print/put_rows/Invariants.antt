@@ -7,4 +7,5 @@ use Rattle.report_text.proofs.print.put_rows.Given as goal
 
 abbrev pub invariant-loop-row : goal.invariant-loop-row
 invariant-loop-row g l =
-    Writes {T = Unit {0}} {E = WriteFault} g.K.Sink.held g.K.Sink.faults l.initial.sink l.sink (Ok tt) (flat_map (λ row. row) (take l.row-index l.rows))
+    Writes {T = Unit {0}} {E = WriteFault} g.K.Sink.held g.K.Sink.faults l.initial.sink l.sink (Ok tt)
+    (flat_map (λ row. row) (take l.row-index l.rows))

@@ -18,4 +18,5 @@ returns-in_default-clause-found c =
 -- no number
 pub returns-in_default-2-clause-found : goal.returns-in_default-2-clause-found
 returns-in_default-2-clause-found c =
-    sym (field_none _ _ _ (number_field c.args.limit (omega arith)) c.args.text.now (λ n le e. c.in_default.ensures.value n (omega arith) e))
+    sym (field_none _ _ _ (number_field c.args.limit (omega arith)) c.args.text.now
+    (λ n le e. c.in_default.ensures.value n (omega arith) e))

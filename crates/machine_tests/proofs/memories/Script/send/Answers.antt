@@ -4,5 +4,6 @@ use Rattle.machine_tests.proofs.memories.Script.send.Goals as goal
 
 pub returns : goal.returns
 returns g c = record {
-  fits = fits-sends _ _ _ c.requires.fits c.args.core _ _ _ (search rules) c.requires.core (omega arith) c.serve.ensures.lawful c.ask.ensures.asks (c.serve.ensures.serves _ c.ask.ensures.asks.port);
+  fits = fits-sends _ _ _ c.requires.fits c.args.core _ _ _ (search rules) c.requires.core (omega arith) c.serve.ensures.lawful
+      c.ask.ensures.asks (c.serve.ensures.serves _ c.ask.ensures.asks.port);
 }

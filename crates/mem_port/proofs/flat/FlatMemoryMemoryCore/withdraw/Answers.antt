@@ -4,10 +4,12 @@ use Rattle.mem_port.proofs.flat.FlatMemoryMemoryCore.withdraw.Goals as goal
 
 pub returns-in-Answered-clause-lawful : goal.returns-in-Answered-clause-lawful
 returns-in-Answered-clause-lawful c =
-    let within : c.place-place.result < length c.args.self.now.cells.items = search rules in
-    quiet-lawful _ _ _ c.args.port _ _ _ c.place-place.ensures.place within c.requires.core c.requires.lawful tt tt (λ core. tt) (λ w. w)
+    let within : c.cell_index-index.result < length c.args.self.now.cells.items = search rules in
+    quiet-lawful _ _ _ c.args.port _ _ _ c.cell_index-index.ensures.index within c.requires.core c.requires.lawful tt tt (λ core. tt)
+    (λ w. w)
 
 pub returns-in_default-clause-lawful : goal.returns-in_default-clause-lawful
 returns-in_default-clause-lawful c =
-    let within : c.place-place.result < length c.args.self.now.cells.items = search rules in
-    quiet-lawful _ _ _ c.args.port _ _ _ c.place-place.ensures.place within c.requires.core c.requires.lawful tt tt (λ core. tt) (λ w. w)
+    let within : c.cell_index-index.result < length c.args.self.now.cells.items = search rules in
+    quiet-lawful _ _ _ c.args.port _ _ _ c.cell_index-index.ensures.index within c.requires.core c.requires.lawful tt tt (λ core. tt)
+    (λ w. w)

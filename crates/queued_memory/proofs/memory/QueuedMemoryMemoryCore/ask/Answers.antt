@@ -11,7 +11,8 @@ pub returns : goal.returns
 returns g c =
     let asks = asks-queued _ _ c.args.self.now.ordered c.args.port c.args.request _ c.requires.free c.requires.core c.ask.ensures.asks in
     record {
-      lawful = queued-lawful _ _ (asks-keeps _ _ c.args.self.now.ordered c.args.port c.args.request _ c.requires.free c.ask.ensures.lawful c.ask.ensures.asks);
+      lawful = queued-lawful _ _ (asks-keeps _ _ c.args.self.now.ordered c.args.port c.args.request _ c.requires.free c.ask.ensures.lawful
+          c.ask.ensures.asks);
       asks = asks;
       made = record { obeys = asks; queue = refl };
     }

@@ -7,17 +7,23 @@ use Rattle.queued_memory.proofs.memory.QueuedMemoryMemoryCore.serve.Goals as goa
 
 pub join-requires : goal.join-requires
 join-requires g c =
-    omega (arith, serves-room _ _ c.args.self.now.ordered c.args.port c.requires.asked.0 c.requires.asked.1 c.requires.core, c.args.self.now.room)
+    omega (
+      arith,
+      serves-room _ _ c.args.self.now.ordered c.args.port c.requires.asked.0 c.requires.asked.1 c.requires.core,
+      c.args.self.now.room,
+    )
 
 pub invariant_of-self-clause-ordered : goal.invariant_of-self-clause-ordered
 invariant_of-self-clause-ordered g c =
     let Ordered : QueueView → Type 0 = λ queue. IsQueue queue (g.M.MemoryCore.view c.args.self.now.memory) in
-    subst Ordered (sym c.join.ensures.queue) (serves-keeps _ _ c.args.self.now.ordered c.args.port c.requires.asked.0 c.requires.asked.1 c.requires.core)
+    subst Ordered (sym c.join.ensures.queue)
+    (serves-keeps _ _ c.args.self.now.ordered c.args.port c.requires.asked.0 c.requires.asked.1 c.requires.core)
 
 pub returns-clause-lawful : goal.returns-clause-lawful
 returns-clause-lawful g c =
     let Lawful : QueueView → Type 0 = λ queue. IsLawful (queued queue (g.M.MemoryCore.view c.args.self.now.memory)) in
-    subst Lawful (sym c.join.ensures.queue) (queued-lawful _ _ (serves-keeps _ _ c.args.self.now.ordered c.args.port c.requires.asked.0 c.requires.asked.1 c.requires.core))
+    subst Lawful (sym c.join.ensures.queue)
+    (queued-lawful _ _ (serves-keeps _ _ c.args.self.now.ordered c.args.port c.requires.asked.0 c.requires.asked.1 c.requires.core))
 
 pub returns-clause-serves : goal.returns-clause-serves
 returns-clause-serves g c r asked =

@@ -1,0 +1,21 @@
+-- What a function that reads answers, against what reading gives. Want of memory says nothing of what is read.
+use Rattle.std.specs.Prelude.{◌≡◌, Result, Ok, Err}
+use Rattle.kmp_base.specs.declared.fault.Fault.{Fault}
+use Rattle.kmp_base.specs.declared.fault.Fault.TheVariants.{Memory, Cause}
+
+-- a fault is that of the reading, its cause seen by view
+abbrev pub FailsAs : {E C Y : Type 0} → (E → C) → Fault E → Result Y C → Type 0
+FailsAs view Memory reading = Unit {0}
+FailsAs view (Cause cause) reading = reading ≡ Err (view cause)
+
+-- an answer is what reading gives, its value and its cause each seen by a view
+abbrev pub GivesAs : {X Y E C : Type 0} → (X → Y) → (E → C) → Result X (Fault E) → Result Y C → Type 0
+GivesAs view view_cause (Ok x) reading = reading ≡ Ok (view x)
+GivesAs view view_cause (Err fault) reading = FailsAs view_cause fault reading
+
+-- the same where the causes are those of the reading as they are
+abbrev pub Fails : {E Y : Type 0} → Fault E → Result Y E → Type 0
+Fails fault reading = FailsAs (λ cause. cause) fault reading
+
+abbrev pub Gives : {X Y E : Type 0} → (X → Y) → Result X (Fault E) → Result Y E → Type 0
+Gives view result reading = GivesAs view (λ cause. cause) result reading

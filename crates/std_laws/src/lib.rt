@@ -1,0 +1,8 @@
+//! Laws of std's lists, options and numbers that std doesn't have: they name nothing of the other
+//! crates.
+//!
+//! The laws that other crates cite:
+//! - `proofs/ListLaws`: an element by its index, what holds of each element, a list that is split.
+//! - `proofs/OptionLaws`: what an option is made of.
+//! - `proofs/NumberLaws`: multiples of a number.
+#![tactic(auto)]

@@ -1,0 +1,11 @@
+pub mod NumberLaws
+pub mod SideLaws
+pub mod CoreLaws
+pub mod CallLaws
+pub mod PassLaws
+pub mod Totals
+pub mod Others
+pub mod RuleSteps
+pub mod Acts
+pub mod Opening
+pub mod Closing
