@@ -1,4 +1,7 @@
 //! The fields of a report's rows, and what stands in them.
+ghost use Rattle.std.specs.Prelude.{◌≡◌, ◌≤◌, length};
+ghost use Rattle.access_log.specs.Names.{field_name};
+
 use crate::Letter;
 use mips_isa::{Kind, Stop};
 
@@ -59,6 +62,45 @@ pub enum Field {
     W,
     /// A count.
     Count,
+}
+
+impl Field {
+    /// Its name in the verdict on a report.
+    pub fn name(self) -> &'static str
+        ensures name { result.now ≡ field_name self }
+        ensures short { length result.now ≤ 8 }
+    {
+        match self {
+            Field::Nth => "nth",
+            Field::Kind => "kind",
+            Field::Addr => "addr",
+            Field::Old => "old",
+            Field::New => "new",
+            Field::Letter => "letter",
+            Field::Im => "im",
+            Field::Line => "line",
+            Field::Held => "held",
+            Field::Ch => "ch",
+            Field::Di => "di",
+            Field::Victim => "victim",
+            Field::Retired => "retired",
+            Field::End => "end",
+            Field::Cycles => "cycles",
+            Field::Rows => "rows",
+            Field::Pc => "pc",
+            Field::Dpc => "dpc",
+            Field::Register => "register",
+            Field::Word => "word",
+            Field::I => "I",
+            Field::F => "F",
+            Field::D => "D",
+            Field::E => "E",
+            Field::A => "A",
+            Field::M => "M",
+            Field::W => "W",
+            Field::Count => "count",
+        }
+    }
 }
 
 /// What stands in a field, or is due there.

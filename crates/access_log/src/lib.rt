@@ -60,6 +60,24 @@ pub enum Letter {
     I,
 }
 
+impl Letter {
+    ghost use Rattle.std.specs.Prelude.{◌≡◌, ◌≤◌, length};
+    ghost use Rattle.access_log.specs.Names.{letter_name};
+
+    pub fn name(self) -> &'static str
+        ensures name { result.now ≡ letter_name self }
+        ensures short { length result.now ≤ 10 }
+    {
+        match self {
+            Letter::M => "M",
+            Letter::O => "O",
+            Letter::E => "E",
+            Letter::S => "S",
+            Letter::I => "I",
+        }
+    }
+}
+
 /// A transaction of the bus. It carries no words.
 ///
 /// The instruction cache of core c is cache 2c, and its data cache is cache 2c + 1. Line k holds

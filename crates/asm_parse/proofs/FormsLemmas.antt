@@ -1,5 +1,5 @@
 -- Statements that are written are read, form by form.
-use Rattle.std.proofs.Common.{◌≡◌, ℕ, ◌%◌, ◌^◌, ◌<◌, ◌≤◌, Bool, true, false, List, [], ◌∷◌, ◌++◌, map, Some, Result, Ok, refl, arith}
+use Rattle.std.proofs.Common.{◌≡◌, ℕ, ◌%◌, ◌^◌, ◌<◌, ◌≤◌, Bool, true, false, List, [], ◌∷◌, map, Some, Ok, refl, arith}
 use Rattle.mips_isa.specs.declared.Instr.TheVariants as instrs
 use Rattle.mips_isa.specs.declared.ShiftOp.{ShiftOp}
 use Rattle.mips_isa.specs.declared.ShiftOp.TheVariants.{Sll, Srl, Sra}
@@ -8,10 +8,9 @@ use Rattle.mips_isa.specs.declared.AluOp.TheVariants.{Add, Addu, Sub, Subu, And,
 use Rattle.mips_isa.specs.declared.ImmOp.{ImmOp}
 use Rattle.mips_isa.specs.declared.ZeroOp.{ZeroOp}
 use Rattle.mips_isa.specs.declared.ZeroOp.TheVariants.{Bltz, Bgez, Blez, Bgtz}
-use Rattle.asm_token.specs.declared.fault.AsmCause.{AsmCause}
 use Rattle.asm_token.specs.declared.token.Token.{Token}
 use Rattle.asm_token.specs.declared.token.Token.TheVariants as tokens
-use Rattle.kmp_base.specs.Bind.{◌>>=◌}
+use Rattle.kmp_base.proofs.ReadingLaws.{with_front_and_rest}
 use Rattle.asm_token.specs.Numbers.{word_of}
 use Rattle.asm_parse.specs.declared.forms.Form.{Form}
 use Rattle.asm_parse.specs.declared.forms.Form.TheVariants as forms
@@ -80,13 +79,9 @@ unfolding form_of
 jump_form true = refl
 jump_form false = refl
 
--- labels, and what is read behind them
-abbrev pub behind_front : List Body → Result (List Body × Part) AsmCause → Result (List Body × Part) AsmCause
-behind_front front read = read >>= λ named. Ok (front ++ named.0, named.1)
-
--- What the tokens of a line are read as.
+-- What the tokens of a line are read as: its labels, and what stands behind them.
 abbrev pub Reads : Part → List Token → List Body → Part → Type 0
-Reads part ts bodies behind = behind_front (map Label (labels_in ts)) (named_in part (behind_labels ts)) ≡ Ok (bodies, behind)
+Reads part ts bodies behind = with_front_and_rest (map Label (labels_in ts)) (named_in part (behind_labels ts)) ≡ Ok (bodies, behind)
 
 -- a name is read by its form, where its operands are
 pub form_reads : (part : Part) (form : Form) (name : List ℕ) (ts : List Token) (bodies : List Body)

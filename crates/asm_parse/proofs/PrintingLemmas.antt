@@ -3,6 +3,7 @@ use Rattle.std.proofs.Common.{◌≡◌, ℕ, ◌*◌, ◌/◌, ◌%◌, ◌^◌
 use Rattle.std.proofs.Common.{arith}
 use Rattle.std.specs.Prelude.{IsTrue, codes}
 use Rattle.std.proofs.lemmas.List.{append-nil}
+use Rattle.kmp_base.proofs.ReadingLaws.{with_front_and_rest}
 use Rattle.mips_isa.specs.Words.{IsProper}
 use Rattle.mips_isa.specs.declared.Instr.{Instr}
 use Rattle.mips_isa.specs.declared.Instr.TheVariants as instrs
@@ -26,10 +27,10 @@ use Rattle.asm_parse.specs.Lines.{labels_in, behind_labels, named_in, line_of}
 use Rattle.asm_parse.specs.Operands.{operands_in}
 use Rattle.asm_parse.specs.Statements.{body_of, statement_in, part_moved, IsBranch, IsProperBody}
 use Rattle.asm_parse.specs.Printing.{shift_name, shift_by_name, alu_name, branch_name, zero_name, jump_name, number, signed_of}
-use Rattle.asm_parse.specs.Printing.{signed_number, value_token, with_operands, one, branch_tokens, instr_tokens, body_tokens, branch_imm}
+use Rattle.asm_parse.specs.Printing.{signed_number, value_token, one, branch_tokens, instr_tokens, body_tokens, branch_imm}
 use Rattle.asm_parse.specs.Printing.{IsWord, HasNumbers, body_stands, label_tokens}
 use Rattle.asm_parse.proofs.OperandsLemmas.{place_read, label_read, is_target, is_signed, signed_back}
-use Rattle.asm_parse.proofs.FormsLemmas.{Reads, behind_front, form_reads, shift_form, shift_by_form, alu_form, branch_form, zero_form}
+use Rattle.asm_parse.proofs.FormsLemmas.{Reads, form_reads, shift_form, shift_by_form, alu_form, branch_form, zero_form}
 use Rattle.asm_parse.proofs.FormsLemmas.{jump_form, shift_read, shift_by_read, alu_read, cas_read, signed_read, unsigned_read, lui_read}
 use Rattle.asm_parse.proofs.FormsLemmas.{branch_read, zero_read, jump_read, jump_reg_read, jump_link_read, lw_read, sw_read, load_read}
 use Rattle.asm_parse.proofs.FormsLemmas.{data_read, space_read, word_read, value_read}
@@ -37,9 +38,9 @@ use Rattle.asm_parse.proofs.FormsLemmas.{data_read, space_read, word_read, value
 -- Labels and nothing.
 
 one_label : (label : List ℕ) (front bodies : List Body) (behind : Part) (read : Result (List Body × Part) AsmCause)
-    → behind_front front read ≡ Ok (bodies, behind)
-    → behind_front (Label label ∷ front) read ≡ Ok (Label label ∷ bodies, behind)
-one_label label front bodies behind (Ok named) is = ap (behind_front (Label label ∷ [])) is
+    → with_front_and_rest front read ≡ Ok (bodies, behind)
+    → with_front_and_rest (Label label ∷ front) read ≡ Ok (Label label ∷ bodies, behind)
+one_label label front bodies behind (Ok named) is = ap (with_front_and_rest (Label label ∷ [])) is
 one_label label front bodies behind (Err cause) is = absurd cc
 
 nothing_reads : (part : Part) → Reads part [] [] part

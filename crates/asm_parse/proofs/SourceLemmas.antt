@@ -1,11 +1,11 @@
 -- A text that is printed is read as the statements that were printed.
-use Rattle.std.proofs.Common.{◌≡◌, ℕ, ◌+◌, ◌*◌, ◌^◌, ◌<◌, Bool, true, false, ◌&&◌, List, [], ◌∷◌, ◌++◌, Ok, refl, ap, ◌∙◌, arith}
+use Rattle.std.proofs.Common.{◌≡◌, ℕ, ◌+◌, ◌*◌, ◌^◌, ◌<◌, Bool, true, false, List, [], ◌∷◌, ◌++◌, Ok, refl, ap, ◌∙◌, arith}
 use Rattle.std.specs.Prelude.{nat_lt}
 use Rattle.std.specs.Fmt.{digits}
-use Rattle.std.specs.List.{list_all, enumerate_from}
+use Rattle.std.specs.List.{AllByRecursion, list_all, enumerate_from}
 use Rattle.std.proofs.lemmas.Bool.{agree_below, agree_below_at, and_parts}
 use Rattle.std.proofs.lemmas.Bool.Decides.{nat_tests}
-use Rattle.std_laws.proofs.ListLaws.{list_all-weaker}
+use Rattle.std_laws.proofs.ListLaws.{list_all-weaker, list_all-from_recursion}
 use Rattle.mips_isa.specs.Words.{IsProper}
 use Rattle.mips_isa.specs.declared.Instr.{Instr}
 use Rattle.mips_isa.specs.declared.Instr.TheVariants as instrs
@@ -109,64 +109,53 @@ value_written : (value : Value) → IsWord value → value_named value ≡ true 
 value_written (values.Number n) low named = number_written n low
 value_written (values.Of label) low named = named
 
--- one of two, and of three operands
-pair : (name x y : Bool) → name ≡ true → x ≡ true → y ≡ true → (name && (x && (true && (y && true)))) ≡ true
-pair name x y first second third = rw (first, second, third) refl
+-- each token can be
+abbrev AreWritten : List Token → Type 0
+AreWritten ts = AllByRecursion (λ t. can_be_written t ≡ true) ts
 
-triple : (name x y z : Bool) → name ≡ true → x ≡ true → y ≡ true → z ≡ true → (name && (x && (true && (y && (true && (z && true)))))) ≡ true
-triple name x y z first second third fourth = rw (first, second, third, fourth) refl
-
-single : (name x : Bool) → name ≡ true → x ≡ true → (name && (x && true)) ≡ true
-single name x first second = rw (first, second) refl
-
-addressed : (x imm y : Bool) → x ≡ true → imm ≡ true → y ≡ true → (x && (true && (imm && (true && (y && (true && true)))))) ≡ true
-addressed x imm y first second third = rw (first, second, third) refl
-
-branch_written : (instr : Instr) (place : Token) → IsProper instr → can_be_written place ≡ true
-    → list_all can_be_written (branch_tokens instr place) ≡ true
+branch_written : (instr : Instr) (place : Token) → IsProper instr → can_be_written place ≡ true → AreWritten (branch_tokens instr place)
 branch_written (instrs.BranchTwo differ x y imm) place proper written =
-    triple _ _ _ _ (branch_named differ) (register_written x proper.0) (register_written y proper.1) written
-branch_written (instrs.BranchZero op x imm) place proper written = pair _ _ _ (zero_named op) (register_written x proper.0) written
-branch_written other place proper written = refl
+    (branch_named differ, (register_written x proper.0, (refl, (register_written y proper.1, (refl, (written, tt))))))
+branch_written (instrs.BranchZero op x imm) place proper written = (zero_named op, (register_written x proper.0, (refl, (written, tt))))
+branch_written other place proper written = tt
 
-instr_written : (instr : Instr) → IsProper instr → list_all can_be_written (instr_tokens instr) ≡ true
+instr_written : (instr : Instr) → IsProper instr → AreWritten (instr_tokens instr)
 instr_written (instrs.Shift op x y sa) proper =
-    triple _ _ _ _ (shift_named op) (register_written x proper.0) (register_written y proper.1)
-    (number_written sa (omega (arith, proper.2)))
+    let amount = number_written sa (omega (arith, proper.2)) in
+    (shift_named op, (register_written x proper.0, (refl, (register_written y proper.1, (refl, (amount, tt))))))
 instr_written (instrs.ShiftBy op x y z) proper =
-    triple _ _ _ _ (shift_by_named op) (register_written x proper.0) (register_written y proper.1) (register_written z proper.2)
+    (shift_by_named op, (register_written x proper.0, (refl, (register_written y proper.1, (refl, (register_written z proper.2, tt))))))
 instr_written (instrs.Alu op x y z) proper =
-    triple _ _ _ _ (alu_named op) (register_written x proper.0) (register_written y proper.1) (register_written z proper.2)
+    (alu_named op, (register_written x proper.0, (refl, (register_written y proper.1, (refl, (register_written z proper.2, tt))))))
 instr_written (instrs.AluImm op x y imm) proper =
-    triple _ _ _ _ (imm_named op) (register_written x proper.0) (register_written y proper.1) (immediate_written op imm proper.2)
-instr_written (instrs.Lui x imm) proper = pair true _ _ refl (register_written x proper.0) (number_written imm (omega (arith, proper.1)))
+    (imm_named op, (register_written x proper.0, (refl, (register_written y proper.1, (refl, (immediate_written op imm proper.2, tt))))))
+instr_written (instrs.Lui x imm) proper = (refl, (register_written x proper.0, (refl, (number_written imm (omega (arith, proper.1)), tt))))
 instr_written (instrs.BranchTwo differ x y imm) proper =
     branch_written (instrs.BranchTwo differ x y imm) (signed_number imm) proper (signed_written imm proper.2)
 instr_written (instrs.BranchZero op x imm) proper =
     branch_written (instrs.BranchZero op x imm) (signed_number imm) proper (signed_written imm proper.1)
-instr_written (instrs.Jump link index) proper = single _ _ (jump_named link) (number_written (4 * index) (omega (arith, proper)))
-instr_written (instrs.JumpReg x) proper = single true _ refl (register_written x proper)
-instr_written (instrs.JumpLink x y) proper = pair true _ _ refl (register_written x proper.0) (register_written y proper.1)
+instr_written (instrs.Jump link index) proper = (jump_named link, (number_written (4 * index) (omega (arith, proper)), tt))
+instr_written (instrs.JumpReg x) proper = (refl, (register_written x proper, tt))
+instr_written (instrs.JumpLink x y) proper = (refl, (register_written x proper.0, (refl, (register_written y proper.1, tt))))
 instr_written (instrs.Lw x y imm) proper =
-    addressed _ _ _ (register_written x proper.0) (signed_written imm proper.2) (register_written y proper.1)
+    (refl, (register_written x proper.0, (refl, (signed_written imm proper.2, (refl, (register_written y proper.1, (refl, tt)))))))
 instr_written (instrs.Sw x y imm) proper =
-    addressed _ _ _ (register_written x proper.0) (signed_written imm proper.2) (register_written y proper.1)
+    (refl, (register_written x proper.0, (refl, (signed_written imm proper.2, (refl, (register_written y proper.1, (refl, tt)))))))
 instr_written (instrs.Cas x y z) proper =
-    triple true _ _ _ refl (register_written x proper.0) (register_written y proper.1) (register_written z proper.2)
-instr_written instrs.Halt proper = refl
+    (refl, (register_written x proper.0, (refl, (register_written y proper.1, (refl, (register_written z proper.2, tt))))))
+instr_written instrs.Halt proper = (refl, tt)
 
-body_written : (body : Body) → IsProperBody body → HasNumbers body → body_named body ≡ true
-    → list_all can_be_written (body_tokens body) ≡ true
-body_written (Label label) proper fits named = single _ true named refl
-body_written Text proper fits named = refl
-body_written Data proper fits named = refl
-body_written (DataAt start) proper fits named = single true _ refl (number_written start fits)
-body_written (Word value) proper fits named = single true _ refl (value_written value fits named)
-body_written (Space bytes) proper fits named = single true _ refl (number_written bytes (omega (arith, fits)))
+body_written : (body : Body) → IsProperBody body → HasNumbers body → body_named body ≡ true → AreWritten (body_tokens body)
+body_written (Label label) proper fits named = (named, (refl, tt))
+body_written Text proper fits named = (refl, tt)
+body_written Data proper fits named = (refl, tt)
+body_written (DataAt start) proper fits named = (refl, (number_written start fits, tt))
+body_written (Word value) proper fits named = (refl, (value_written value fits named, tt))
+body_written (Space bytes) proper fits named = (refl, (number_written bytes (omega (arith, fits)), tt))
 body_written (Plain instr) proper fits named = instr_written instr proper
 body_written (BranchTo instr label) proper fits named = branch_written instr (tokens.Name label) proper.0 named
-body_written (JumpTo link label) proper fits named = single _ _ (jump_named link) named
-body_written (Load x value) proper fits named = pair true _ _ refl (register_written x proper) (value_written value fits named)
+body_written (JumpTo link label) proper fits named = (jump_named link, (named, tt))
+body_written (Load x value) proper fits named = (refl, (register_written x proper, (refl, (value_written value fits named, tt))))
 
 -- Lines.
 
@@ -193,7 +182,7 @@ unfolding lines_of statements_from
 printed_from part number [] are = refl
 printed_from part number (body ∷ bodies) are =
     let ts = body_tokens body in
-    let written = body_written body are.0 are.1 are.2 in
+    let written = list_all-from_recursion can_be_written ts (body_written body are.0 are.1 are.2) in
     let within = list_all-weaker is_text_byte is_within_line text_within_line (printed_line ts) (printed_bytes ts written) in
     let read = statement_read part [] body (printed_line ts) are.0 are.1 are.3 (printed_writes ts written) in
     let rest = printed_from (part_moved part body) (number + 1) bodies are.4 in

@@ -1,6 +1,6 @@
 -- Tokens that are read one after the other.
-use Rattle.std.proofs.Common.{◌≡◌, ℕ, zero, suc, ◌-◌, ◌<◌, true, false, List, [], ◌∷◌, ◌++◌, drop, Result, Ok, Err, refl, sym, ap, ◌∙◌}
-use Rattle.std.proofs.Common.{append_assoc, arith}
+use Rattle.std.proofs.Common.{◌≡◌, ℕ, zero, suc, ◌-◌, ◌<◌, true, false, List, [], ◌∷◌, ◌++◌, drop, Result, Ok, Err, refl, sym, ◌∙◌}
+use Rattle.std.proofs.Common.{arith}
 use Rattle.asm_token.specs.declared.fault.AsmCause.{AsmCause}
 use Rattle.asm_token.specs.declared.token.Token.{Token}
 use Rattle.asm_token.specs.Bytes.{is_blank}

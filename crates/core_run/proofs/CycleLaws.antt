@@ -12,6 +12,15 @@ use Rattle.core_run.specs.declared.lane.Came.{Came}
 use Rattle.core_run.specs.Cycle.{IsCycle, IsEnding, WaitsLess, lane_after, wait_left}
 use Rattle.core_run.specs.Lanes.{IsClosed, IsNoTighter, bound_of, history_after}
 
+-- What calls keep of a side, they keep one after the other.
+pub keeps-then : (a b d : SideView) → KeepsSide a b → KeepsSide b d → KeepsSide a d
+keeps-then a b d h k = record {
+  image = k.image ∙ h.image;
+  cores = k.cores ∙ h.cores;
+  tells_distances = k.tells_distances ∙ h.tells_distances;
+  bound = k.bound ∙ h.bound;
+}
+
 -- A want that isn't met has a clock less, another one the bound.
 left : {W : Type 0} (told : Bool) (want : Option W) (given : Option ℕ) (remaining_wait bound old : ℕ)
     → (IsTrue told → is_unmet want given ≡ true → remaining_wait + 1 ≤ old)

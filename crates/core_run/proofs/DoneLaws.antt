@@ -1,12 +1,12 @@
 -- The end of a run: every core has ended, and what it did is what the sequential machine does.
 use Rattle.std.proofs.Common.{◌≡◌, ℕ, ◌<◌, Some, None, List, [], ◌∷◌, ◌++◌, length, append-nil, refl, ap, sym, ◌∙◌, arith}
-use Rattle.std.specs.Prelude.{Option, slice_get, map}
+use Rattle.std.specs.Prelude.{Option, slice_get, map, ◌&&◌, not}
 use Rattle.std.proofs.lemmas.List.{length-map}
 use Rattle.std.proofs.lemmas.Option.{same_Some, slice_get-map, slice_get_within}
 use Rattle.std_laws.proofs.ListLaws.{slice_get_some}
 use Rattle.std_laws.proofs.OptionLaws.{option_map_parts}
 use Rattle.mips_isa.specs.declared.CoreState.{CoreState}
-use Rattle.image_file.specs.Value.{IsGood, memory_bytes, start_memory, start_state, start_states}
+use Rattle.image_file.specs.Value.{ImageValue, IsGood, memory_bytes, start_memory, start_state, start_states}
 use Rattle.image_file.proofs.StartLaws.{bytes-start_memory, length-start_states, start_states-at}
 use Rattle.access_log.specs.declared.Core.{Core}
 use Rattle.access_log.specs.declared.Entry.{Entry}
@@ -20,7 +20,9 @@ use Rattle.access_log.specs.Replay.{own}
 use Rattle.access_log.proofs.AloneLaws.{comes-alone}
 use Rattle.access_log.proofs.InterleavingLaws.{interleaving}
 use Rattle.access_log.proofs.ItemLaws.{entries-append, own-entries, memory_after-entries, length-after_items}
+use Rattle.timetable.specs.declared.End.{End}
 use Rattle.timetable.specs.declared.CoreEnd.{CoreEnd}
+use Rattle.timetable.specs.declared.rows.TimeRow.{TimeRow}
 use Rattle.timetable.specs.Outcome.{final_of}
 use Rattle.mem_port.specs.declared.port.Port.{Port}
 use Rattle.mem_port.specs.declared.port.Port.TheVariants.{Fetch, Access}
@@ -30,9 +32,12 @@ use Rattle.mem_port.specs.Loaded.{stop}
 use Rattle.mem_port.specs.Ports.{core_of, IsAtRest, taken_of}
 use Rattle.mem_port.specs.Memory.{MemoryView, IsLawful, Settles, bus_items, committed}
 use Rattle.mem_port.specs.Engine.{EngineView}
-use Rattle.mem_port.specs.Side.{port_phase, side_of}
-use Rattle.core_run.specs.Lanes.{HasCome, IsQuiet, IsFinished}
-use Rattle.core_run.specs.Serial.{EndFits, IsRun}
+use Rattle.mem_port.specs.ServiceHistory.{ServiceHistory}
+use Rattle.mem_port.specs.Side.{SideView, port_phase, side_of}
+use Rattle.core_run.specs.declared.lane.Lane.{Lane}
+use Rattle.core_run.specs.Lanes.{HasCome, IsQuiet, IsFinished, bound_of}
+use Rattle.core_run.specs.Running.{EndFits, IsServedAt, goes_on}
+use Rattle.core_run.specs.Outcomes.{IsRun, IsEngineOf, IsEndOf}
 use Rattle.core_run.proofs.OwnLemmas.{entries-within}
 
 -- At rest a core has taken all its entries.
@@ -84,6 +89,23 @@ pub finished-own : (m : MemoryView) (core : ℕ) (e : EngineView) (items : List 
 finished-own m core e items h same =
     taken-all (m.port (Access core)) (own_items m.history core) h.access
     ∙ (sym (own-entries m.history core) ∙ ap (λ order. own order core) (sym same))
+
+-- The engine of a core that has ended, by what its slot tells.
+pub engine-of : {E : Type 0} (view : E → EngineView) (times : ServiceHistory → E → Type 0) (image : ImageValue) (core cores : ℕ)
+    (s : SideView) (engine : E) (rows : List TimeRow) (lane : Lane) (end : Option End) (cycles : ℕ) (ended : CoreEnd)
+    (history : ServiceHistory) → s.image ≡ image → s.cores ≡ cores → lane.core ≡ core → IsFinished (view engine) s lane.core
+    → IsServedAt view times s engine lane end cycles history → IsEndOf (view engine) rows end cycles ended
+    → IsEngineOf image core cores (bound_of s) ended history (view engine)
+engine-of view times image core cores s engine rows lane end cycles ended history same_image same_cores same finished served told = record {
+  image_is = finished.image ∙ same_image;
+  core_is = finished.core_is ∙ same;
+  cores_are = finished.cores ∙ same_cores;
+  retired = told.retired;
+  state = told.state;
+  live = served.live ∙ ap (λ (it : Option End). goes_on it && not history.is_drained) told.ends;
+  clocks = served.clocks ∙ sym told.took;
+  bound_is = served.bound;
+}
 
 -- All cores have ended.
 module _ (budget : ℕ) (m : MemoryView) (ends : List CoreEnd) (count : length ends ≡ m.cores)

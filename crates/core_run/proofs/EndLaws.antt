@@ -22,7 +22,7 @@ use Rattle.mem_port.specs.Side.{SideView}
 use Rattle.core_run.specs.declared.lane.Lane.{Lane}
 use Rattle.core_run.specs.Cycle.{IsDrained, found_by, late_reply}
 use Rattle.core_run.specs.Lanes.{IsCoupled, Progressed, StopsWhereDead}
-use Rattle.core_run.specs.Serial.{EndFits, goes_on, end_after}
+use Rattle.core_run.specs.Running.{EndFits, goes_on, end_after}
 use Rattle.core_run.proofs.LaneLemmas.{executed-none, open-lives}
 use Rattle.core_run.proofs.StampLemmas.{entries-stamped}
 

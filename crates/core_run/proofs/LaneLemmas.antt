@@ -33,6 +33,7 @@ use Rattle.core_run.specs.declared.lane.Came.{Came}
 use Rattle.core_run.specs.Cycle.{opens, sends, takes, steps, cycle_calls, moved_in, wait_left, late_reply, found_by, WasOn, IsDrained}
 use Rattle.core_run.specs.Lanes.{HasCome, IsCoupled, PortHolds, StopsWhereDead, IsQuiet}
 use Rattle.core_run.specs.Meets.{Makes, Opens, TakesUp, Fits, StepsOn, Meets, Closes, entries_by}
+use Rattle.core_run.proofs.CycleLaws.{keeps-then}
 use Rattle.core_run.proofs.LeadLaws.{lead-append}
 
 -- Calls for a core, one after another.
@@ -84,16 +85,6 @@ module _ {S : Type 0} (serves : S → ℕ → Type 0) (makes : Call → S → S 
       takes-fetch : (p : Port) (want answer : Option ℕ) → takes p want answer ≡ takes p (option_map fetch_of want) answer
       takes-fetch p None answer = refl
       takes-fetch p (Some addr) answer = refl
-
--- What calls leave of a side.
-
-keeps-then : (a b d : SideView) → KeepsSide a b → KeepsSide b d → KeepsSide a d
-keeps-then a b d h k = record {
-  image = k.image ∙ h.image;
-  cores = k.cores ∙ h.cores;
-  tells_distances = k.tells_distances ∙ h.tells_distances;
-  bound = k.bound ∙ h.bound;
-}
 
 -- The answer to what is wanted.
 

@@ -3,12 +3,13 @@ pub mod CycleLaws
 pub mod LaneLemmas
 pub mod PlainLemmas
 pub mod OwnLemmas
+pub mod StartLaws
 pub mod SerialLemmas
 pub mod StampLemmas
 pub mod EndLaws
 pub mod DoneLaws
 pub mod TurnLemmas
-pub mod ServedLemmas
+pub mod RunningLaws
 pub mod RoundLemmas
 pub mod RunLemmas
 pub mod PlainEndLaws

@@ -19,7 +19,8 @@ use Rattle.mem_port.specs.Loaded.{next_in, stop_in, stop, request}
 use Rattle.mem_port.specs.ServiceHistory.{ServiceHistory}
 use Rattle.mem_port.proofs.LoadedLaws.{request-asks}
 use Rattle.core_run.specs.PlainView.{is_live, is_drained, under_way, left_out, wanted_access, in_own_cycles, plain_view, IsPlainHistory}
-use Rattle.core_run.specs.Serial.{EndFits, goes_on, IsEngineOf}
+use Rattle.core_run.specs.Running.{EndFits, goes_on}
+use Rattle.core_run.specs.Outcomes.{IsEngineOf}
 use Rattle.core_run.specs.declared.plain.Phase.{Phase}
 use Rattle.core_run.specs.declared.plain.Phase.TheVariants as phases
 

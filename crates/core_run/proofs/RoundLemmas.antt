@@ -10,11 +10,14 @@ use Rattle.timetable.specs.declared.End.{End}
 use Rattle.mem_port.specs.Memory.{MemoryView, IsFresh, IsAtOnce}
 use Rattle.mem_port.specs.Engine.{EngineView}
 use Rattle.mem_port.specs.ServiceHistory.{ServiceHistory, IsFirstHistory}
-use Rattle.mem_port.specs.Side.{LeavesOthers}
+use Rattle.mem_port.specs.Side.{LeavesOthers, side_of}
 use Rattle.core_run.specs.declared.lane.Lane.{Lane}
-use Rattle.core_run.specs.Serial.{SlotAt, IsStartSlot, IsServedAt, Receives, AreReceived, AreServed}
+use Rattle.core_run.specs.Running.{IsServedAt}
+use Rattle.core_run.specs.Outcomes.{IsStartSlot}
+use Rattle.core_run.specs.Serial.{SlotAt, Receives, AreReceived, AreServed}
 use Rattle.core_run.specs.declared.serial.CoreSlot.{CoreSlot}
-use Rattle.core_run.proofs.SerialLemmas.{slot-kept, served-kept, served-start, first_history, first-history}
+use Rattle.core_run.proofs.SerialLemmas.{slot-kept, served-kept}
+use Rattle.core_run.proofs.StartLaws.{fresh-unused, first_history, first-history, start-served}
 use Rattle.core_run.proofs.StampLemmas.{own-turn, own-other, after-turn, after-round, in-turns-start}
 use Rattle.core_run.proofs.TurnLemmas.{once-along}
 
@@ -39,7 +42,7 @@ turns-other rounds index core ne =
 pub at-own : {core rounds budget cycles : ℕ} {m : MemoryView} {e : EngineView} {lane : Lane} {end : Option End}
     → SlotAt core rounds budget m e lane end cycles
     → SlotAt lane.core rounds budget m e lane end cycles
-at-own h = record { lane_is = refl; holds = h.holds }
+at-own h = record { lane_is = refl; holds = h.holds; count = h.count }
 
 -- A history for a core, instead of the one that it had.
 abbrev pub with_history : (ℕ → ServiceHistory) → ℕ → ServiceHistory → ℕ → ServiceHistory
@@ -93,14 +96,20 @@ module _ {E : Type 0} (view : E → EngineView) where
 
   module _ (times : ServiceHistory → E → Type 0) where
     -- At the start nothing was accessed.
-    pub served-first : (m : MemoryView) (budget : ℕ) (slots : List (CoreSlot E)) → IsFresh m.image m.cores budget m.caches m
+    pub served-first : (m : MemoryView) (budget : ℕ) (slots : List (CoreSlot E)) → length slots ≡ m.cores
+        → IsFresh m.image m.cores budget m.caches m
         → ((core : ℕ) (s : CoreSlot E) → slice_get slots core ≡ Some s
         → IsStartSlot m.image core m.cores budget (view s.engine) s.lane s.end s.cycles)
         → ((core : ℕ) (s : CoreSlot E) → slice_get slots core ≡ Some s → (history : ServiceHistory) → IsFirstHistory history
-        → times history s.engine) → AreServed view times 0 0 m slots (λ core. first_history m)
-    served-first m budget slots fresh starts tells = record {
-      each = λ core s got. served-start view times m s.engine s.lane s.end s.cycles core budget fresh (starts core s got)
-          (tells core s got (first_history m) (first-history m));
+        → times history s.engine) → AreServed view times 0 0 m slots (λ core. first_history (side_of m core))
+    served-first m budget slots count fresh starts tells = record {
+      each = λ core s got.
+          (let start = starts core s got in
+          let within = slice_get_within slots core s got in
+          let side = side_of m s.lane.core in
+          start-served m.image core m.cores budget side view times s.engine s.lane s.end s.cycles
+          (fresh-unused m s.lane.core budget (omega (arith, start.lane_is, within, count)) fresh) start
+          (tells core s got (first_history side) (first-history side)));
       at_once = λ once. ([], (in-turns-start m.history fresh.history, λ core. refl));
     }
 
@@ -134,16 +143,17 @@ module _ {E : Type 0} (view : E → EngineView) where
         (histories : ℕ → ServiceHistory) → index < length slots → turn ≡ index
         → LeavesOthers turn old new → AreInSlots (turns rounds index) budget old slots
         → AreServed view times rounds index old slots histories
-        → ((q : ServiceHistory) × (IsServedAt view times new s.engine s.lane s.end s.cycles q
+        → ((q : ServiceHistory) × (IsServedAt view times (side_of new s.lane.core) s.engine s.lane s.end s.cycles q
         × (IsAtOnce old → Receives turn (rounds + 1) old.history new.history (histories index) q)))
         → (after : ℕ → ServiceHistory) × AreServed view times rounds (index + 1) new (slice_set slots index s) after
     served-turn rounds budget old new slots index turn s histories inside is left at served h =
         let q = h.0 in (
           with_history histories index q,
           record {
-            each = AtEach-set (λ core s. (s.lane.core ≡ core) × IsServedAt view times old s.engine s.lane s.end s.cycles (histories core))
-                (λ core s. IsServedAt view times new s.engine s.lane s.end s.cycles (with_history histories index q core)) slots index s
-                inside
+            each = AtEach-set (λ core s. (s.lane.core ≡ core)
+                × IsServedAt view times (side_of old s.lane.core) s.engine s.lane s.end s.cycles (histories core))
+                (λ core s. IsServedAt view times (side_of new s.lane.core) s.engine s.lane s.end s.cycles
+                (with_history histories index q core)) slots index s inside
                 (rw (history-here histories index q) h.1.0)
                 (λ core s ne k. rw (history-other histories index core q ne)
                 (served-kept turn old new left view times s.engine s.lane s.end s.cycles (histories core) (λ e. ne (sym k.0 ∙ (e ∙ is)))

@@ -28,7 +28,8 @@ use Rattle.mem_port.specs.Memory.{MemoryView, IsFresh, IsAtOnce}
 use Rattle.mem_port.specs.ServiceHistory.{ServiceHistory, IsFirstHistory}
 use Rattle.core_run.specs.Lanes.{IsStarted, IsClosed}
 use Rattle.core_run.specs.PlainView.{in_own_cycles, plain_view, IsPlainHistory}
-use Rattle.core_run.specs.Serial.{AreInTurns, IsRun, IsEngineOf, IsStartSlot, IsServedRun}
+use Rattle.core_run.specs.Outcomes.{IsStartSlot, IsRun, IsEngineOf, EndsServed, NoneWaited}
+use Rattle.core_run.specs.Serial.{AreInTurns, IsServedRun}
 use Rattle.core_run.specs.declared.plain.Plain.{Plain}
 use Rattle.core_run.specs.declared.serial.CoreSlot.{CoreSlot}
 use Rattle.core_run.proofs.PlainEndLaws.{IsUnstalledEnd, unstalled-end}
@@ -107,7 +108,7 @@ view_of e = plain_view e.image.now e.core e.cores e.state e.executed e.phase e.c
 abbrev pub times_of : ServiceHistory → Plain → Type 0
 times_of history e = IsPlainHistory history (view_of e) e.phase
 
--- The slot of an unpipelined core before its first turn.
+-- The slot of an unpipelined core before its first cycle.
 pub record IsFirstSlot (image : ImageValue) (cores core : ℕ) (s : CoreSlot Plain) : Type 0 where
   pub slot : (budget : ℕ) → budget ≤ 4294967295 → IsStartSlot image core cores budget (view_of s.engine) s.lane s.end s.cycles
   pub timed : (history : ServiceHistory) → IsFirstHistory history → times_of history s.engine
@@ -174,6 +175,16 @@ pub run-fresh : (image : ImageValue) (cores budget : ℕ) (m : MemoryView) (outc
     → IsRun m.image m.cores budget m.caches outcome → IsRun image cores budget None outcome
 run-fresh image cores budget m outcome fresh run = rw (fresh.image_is, fresh.cores_are, fresh.caches_are) at run
 
+-- The ends of a run on such a memory that answers each request as it is served.
+pub ends-unstalled : (image : ImageValue) (cores budget : ℕ) (m : MemoryView) (outcome : OutcomeValue) (histories : ℕ → ServiceHistory)
+    → IsFresh image cores budget None m → IsAtOnce m → length outcome.cores ≡ cores
+    → EndsServed view_of (λ e. []) times_of m outcome histories
+    → NoneWaited cores histories → EndsUnstalled image cores outcome histories
+ends-unstalled image cores budget m outcome histories fresh once count served waited core ended got = (
+  waited core (let within = slice_get_within outcome.cores core ended got in omega (arith, within, count)),
+  rw (fresh.image_is, fresh.cores_are, once.told, once.bound) at served core ended got,
+)
+
 -- What a run in turns is, on a memory that answers each request as it is served.
 pub run-unstalled : (setup : Setup) (image : ImageValue) (m : MemoryView) (outcome : OutcomeValue) (histories : ℕ → ServiceHistory)
     → setup.machine ≡ machines.Plain → setup.turns ≡ turns.Round → IsFresh image setup.cores setup.budget None m → IsAtOnce m
@@ -182,10 +193,8 @@ pub run-unstalled : (setup : Setup) (image : ImageValue) (m : MemoryView) (outco
 run-unstalled setup image m outcome histories plain round fresh once run served =
     let at_once = served.at_once once in
     let same = run-fresh image setup.cores setup.budget m outcome fresh run in
-    let each : EndsUnstalled image setup.cores outcome histories = λ core ended got. (
-      at_once.waited core (let within = slice_get_within outcome.cores core ended got in omega (arith, within, run.count)),
-      rw (fresh.image_is, fresh.cores_are, once.told, once.bound) at served.ends core ended got,
-    ) in
+    let each = ends-unstalled image setup.cores setup.budget m outcome histories fresh once same.count served.ends
+    (λ core within. at_once.waited core (rw fresh.cores_are within)) in
     let order = run-turns setup image outcome histories same each at_once.stamps at_once.turns
     (λ core within. at_once.received core (rw fresh.cores_are within)) in
     (run-right setup image outcome histories same each plain, turns-rounds setup (entries outcome.items) plain round order)

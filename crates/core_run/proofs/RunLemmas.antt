@@ -1,6 +1,6 @@
 -- The ends of cores that took turns: what their slots tell, and how their engines were served.
-use Rattle.std.proofs.Common.{◌≡◌, ℕ, Some, None, List, length, refl, ap, sym, ◌∙◌, subst, arith}
-use Rattle.std.specs.Prelude.{Option, slice_get, map, ◌&&◌, not}
+use Rattle.std.proofs.Common.{◌≡◌, ℕ, Some, None, List, length, refl, sym, ◌∙◌, subst, arith}
+use Rattle.std.specs.Prelude.{Option, slice_get, map}
 use Rattle.std.proofs.lemmas.Option.{same_Some}
 use Rattle.std_laws.proofs.ListLaws.{slice_get_some}
 use Rattle.access_log.specs.declared.Item.{Item}
@@ -12,26 +12,28 @@ use Rattle.timetable.specs.declared.rows.TimeRow.{TimeRow}
 use Rattle.mem_port.specs.Memory.{MemoryView, Keeps, committed}
 use Rattle.mem_port.specs.Engine.{EngineView}
 use Rattle.mem_port.specs.ServiceHistory.{ServiceHistory}
-use Rattle.mem_port.specs.Side.{side_of}
+use Rattle.mem_port.specs.Side.{SideView, side_of}
 use Rattle.core_run.specs.declared.lane.Lane.{Lane}
 use Rattle.core_run.specs.declared.serial.CoreSlot.{CoreSlot}
-use Rattle.core_run.specs.Lanes.{HasCome, IsFinished, bound_of}
-use Rattle.core_run.specs.Serial.{IsOver, SlotHolds, SlotAt, IsServedAt, AreServed, IsServedRun, IsEngineOf, IsEndOf, goes_on}
-use Rattle.core_run.proofs.DoneLaws.{IsDone, finished-done, finished-own}
+use Rattle.core_run.specs.Lanes.{HasCome, IsFinished}
+use Rattle.core_run.specs.Running.{IsOnOrOver, IsOver}
+use Rattle.core_run.specs.Outcomes.{IsEndOf}
+use Rattle.core_run.specs.Serial.{SlotAt, AreServed, IsServedRun}
+use Rattle.core_run.proofs.DoneLaws.{IsDone, finished-done, finished-own, engine-of}
 use Rattle.core_run.proofs.RoundLemmas.{AreInSlots}
 use Rattle.core_run.proofs.TurnLemmas.{once-along}
 
 -- A core that has had its turn in each round of the budget has ended.
-over-holds : (end : Option End) (budget : ℕ) (m : MemoryView) (e : EngineView) (lane : Lane) (cycles : ℕ)
-    → SlotHolds end budget budget m e lane cycles
-    → (it : End) × ((end ≡ Some it) × IsOver budget m e lane it cycles)
-over-holds None budget m e lane cycles h = absurd (let more = h.more in omega (arith, more))
-over-holds (Some it) budget m e lane cycles h = (it, (refl, h))
+over-holds : (end : Option End) (budget : ℕ) (s : SideView) (e : EngineView) (lane : Lane) (cycles : ℕ) → (end ≡ None → cycles ≡ budget)
+    → IsOnOrOver end budget s e lane cycles → (it : End) × ((end ≡ Some it) × IsOver budget s e lane it cycles)
+over-holds None budget s e lane cycles count h = absurd (let more = h.more in let all = count refl in omega (arith, more, all))
+over-holds (Some it) budget s e lane cycles count h = (it, (refl, h))
 
 pub slot-over : {core budget : ℕ} {m : MemoryView} {e : EngineView} {lane : Lane} {end : Option End} {cycles : ℕ}
     → SlotAt core budget budget m e lane end cycles
-    → (it : End) × ((end ≡ Some it) × IsOver budget m e lane it cycles)
-slot-over {core} {budget} {m} {e} {lane} {end} {cycles} h = over-holds end budget m e lane cycles h.holds
+    → (it : End) × ((end ≡ Some it) × IsOver budget (side_of m lane.core) e lane it cycles)
+slot-over {core} {budget} {m} {e} {lane} {end} {cycles} h =
+    over-holds end budget (side_of m lane.core) e lane cycles h.count h.holds
 
 pub slot-done : (budget : ℕ) (m : MemoryView) (core : ℕ) (e : EngineView) (rows : List TimeRow) (lane : Lane) (end : Option End)
     (cycles : ℕ) (ended : CoreEnd)
@@ -57,25 +59,6 @@ module _ {E : Type 0} (view : E → EngineView) (rows : E → List TimeRow) wher
       let s = told core ended got in
       slot-done budget m core (view s.0.engine) (rows s.0.engine) s.0.lane s.0.end s.0.cycles ended (at core s.0 s.1.0) s.1.1
 
-  engine-of : (times : ServiceHistory → E → Type 0) (old new : MemoryView) (budget core : ℕ) (s : CoreSlot E) (ended : CoreEnd)
-      (history : ServiceHistory) → Keeps old new
-      → SlotAt core budget budget new (view s.engine) s.lane s.end s.cycles
-      → IsServedAt view times new s.engine s.lane s.end s.cycles history
-      → IsEndOf (view s.engine) (rows s.engine) s.end s.cycles ended
-      → IsEngineOf old.image core old.cores (bound_of (side_of old core)) ended history (view s.engine)
-  engine-of times old new budget core s ended history kept at served told =
-      let finished = (slot-over at).1.1.finished in
-      record {
-        image_is = finished.image ∙ kept.image;
-        core_is = finished.core_is ∙ at.lane_is;
-        cores_are = finished.cores ∙ kept.cores;
-        retired = told.retired;
-        state = told.state;
-        live = served.live ∙ ap (λ (end : Option End). goes_on end && not history.is_drained) told.ends;
-        clocks = served.clocks ∙ sym told.took;
-        bound_is = rw (sym kept.tells_distances, sym kept.bound) served.bound;
-      }
-
   -- How the engines were served until their cores ended.
   pub ends-served : (times : ServiceHistory → E → Type 0) (old new : MemoryView) (budget : ℕ) (words : List ℕ) (items : List Item)
       (slots : List (CoreSlot E)) (ends : List CoreEnd) (histories : ℕ → ServiceHistory)
@@ -93,7 +76,9 @@ module _ {E : Type 0} (view : E → EngineView) (rows : E → List TimeRow) wher
         h.accesses in (
           s.0.engine,
           (
-            engine-of times old new budget core s.0 ended (histories core) kept here h s.1.1,
+            rw (kept.tells_distances, kept.bound) at (engine-of view times old.image core old.cores (side_of new s.0.lane.core) s.0.engine
+                (rows s.0.engine) s.0.lane s.0.end s.0.cycles ended (histories core) kept.image kept.cores here.lane_is
+                (slot-over here).1.1.finished h s.1.1),
             (s.1.1.rows_are, (h.tells, takes ∙ finished-own new core (view s.0.engine) items finished same)),
           ),
         ));
@@ -107,6 +92,6 @@ module _ {E : Type 0} (view : E → EngineView) (rows : E → List TimeRow) wher
           waited = λ core within.
               (let last = slice_get_some ends core (rw count within) in
               let s = told core last.0 last.1 in
-              ((served.each core s.0 s.1.0).at_once now).1);
+              (let h = served.each core s.0 s.1.0 in (h.at_once (h.bound ∙ rw (now.told, now.bound) refl)).1));
         });
   }

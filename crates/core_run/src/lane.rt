@@ -1,9 +1,10 @@
 //! One cycle of a core, and its end.
-ghost use Rattle.std.specs.Prelude.{◌≡◌, ◌≤◌, ◌||◌, ℕ, true, false, Option, Some, IsSome, is_some, option_map};
+ghost use Rattle.std.specs.Prelude.{◌≡◌, ◌≤◌, ◌+◌, ◌||◌, ℕ, true, false, List, Option, Some, None, IsSome, is_some, option_map};
 ghost use Rattle.access_log.specs.declared.request.Request.{Request};
 ghost use Rattle.access_log.specs.Requests.{fetch_of};
 ghost use Rattle.mem_port.specs.Engine.{IsSound};
-ghost use Rattle.mem_port.specs.ServiceHistory.{is_unmet};
+ghost use Rattle.mem_port.specs.Calls.{Call, Lead};
+ghost use Rattle.mem_port.specs.ServiceHistory.{ServiceHistory, is_unmet};
 ghost use Rattle.mem_port.specs.declared.port.PortState.TheVariants.{Free};
 ghost use Rattle.mem_port.specs.declared.port.Withdrawal.{Withdrawal};
 ghost use Rattle.mem_port.specs.Ports.{core_of, MayAsk};
@@ -11,11 +12,13 @@ ghost use Rattle.mem_port.specs.Side.{KeepsSide, port_phase};
 ghost use Rattle.core_run.specs.declared.lane.Came.{Came};
 ghost use Rattle.core_run.specs.Cycle.{IsCycle, IsEnding, IsDrained, sends, opens, takes, steps, cycle_calls, lane_after, moved_in, withdraws};
 ghost use Rattle.core_run.specs.Lanes.{HasCome, IsCoupled, SideSends, HasAsks, PortHolds, Progressed, IsFinished, StopsWhereDead, IsClosed};
+ghost use Rattle.core_run.specs.Running.{IsOn, IsOnOrOver, AreOfCycle, IsServedAt, ReceivesOne, end_after};
 ghost use Rattle.core_run.specs.Meets.{Makes, Opens, TakesUp, StepsOn, Meets, Closes};
 
 use crate::CoreSide;
 use access_log::Request;
 use mem_port::{CoreEngine, Moved, Port, Progress, Withdrawal};
+use timetable::End;
 
 /// Which requests of a core are open: served, and their answers not taken yet.
 #[derive(Clone, Copy)]
@@ -225,4 +228,43 @@ pub fn finish<E: CoreEngine, S: CoreSide>(engine: &mut E, side: &mut S, lane: &m
     drain_open(engine, lane.open_access, access);
     lane.open_access = false;
     lane.open_fetch = false;
+}
+
+/// How a core's cycle ends it, if it does: at a stop, or as the last one of its budget.
+fn end_after(progress: Progress, cycles: u32, budget: u32) -> Option<End>
+    ensures end { result ≡ end_after progress cycles budget }
+{
+    match progress {
+        Progress::Stopped(stop) => Some(End::Stopped(stop)),
+        Progress::Running => (cycles == budget).then_some(End::Spent),
+    }
+}
+
+/// The next cycle of a core that has had so many, and its end, if that was the last one: at a stop, or
+/// with the budget spent.
+pub fn run_cycle<E: CoreEngine, S: CoreSide>(
+    engine: &mut E,
+    side: &mut S,
+    lane: &mut Lane,
+    choice: u32,
+    cycles: u32,
+    budget: u32,
+) -> Option<End>
+    requires serves { S.serves side.old lane.old.core }
+    requires on { IsOn budget (S.view side.old lane.old.core) (E.view engine.old) lane.old cycles }
+    ensures serves { S.serves side.new lane.old.core }
+    ensures core { lane.new.core ≡ lane.old.core }
+    ensures on_or_over { IsOnOrOver result budget (S.view side.new lane.old.core) (E.view engine.new) lane.new (cycles + 1) }
+    ensures kept { KeepsSide (S.view side.old lane.old.core) (S.view side.new lane.old.core) }
+    ensures others { S.leaves_others lane.old.core side.old side.new }
+    ensures made { (calls : List Call) × (AreOfCycle lane.old.core choice (is_some result) calls × Lead S.makes calls side.old side.new) }
+    ensures served { (history : ServiceHistory)
+        → IsServedAt E.view E.timed (S.view side.old lane.old.core) engine.old lane.old None cycles history
+        → (after : ServiceHistory) × (IsServedAt E.view E.timed (S.view side.new lane.old.core) engine.new lane.new result (cycles + 1) after
+        × (history.bound ≡ Some 0 → ReceivesOne (cycles + 1) history after)) }
+{
+    let progress = cycle(engine, side, lane, choice);
+    let end = end_after(progress, cycles + 1, budget)?;
+    finish(engine, side, lane);
+    Some(end)
 }

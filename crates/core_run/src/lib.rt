@@ -10,6 +10,8 @@
 //! - `proofs/LeadLaws`: calls behind others lead on, and calls on what holds a memory are calls on it.
 //! - `proofs/PlainEndLaws`: the end of an unpipelined core whose answers all came at once is right.
 //! - `proofs/RunLaws`: a run of such cores is right.
+//! - `proofs/RunningLaws`: a core behind its cycle and behind its end, and how its engine was served.
+//! - `proofs/StartLaws`: a core before its first cycle.
 #![tactic(auto)]
 
 mod lane;
@@ -19,10 +21,10 @@ mod serial;
 mod side;
 mod timed;
 
-pub use lane::{Lane, cycle, finish};
+pub use lane::{Lane, cycle, finish, run_cycle};
 pub use plain::Plain;
 pub use run::{plain_slots, run_serial};
-pub use serial::{CoreSlot, run_slots};
+pub use serial::{CoreSlot, end_of, run_slots};
 pub use side::CoreSide;
 pub use std::alloc::AllocError as NoMemory;
 pub use timed::TimedEngine;

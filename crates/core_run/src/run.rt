@@ -8,7 +8,7 @@ ghost use Rattle.access_log.specs.Items.{entries};
 ghost use Rattle.right_run.specs.Right.{IsRight};
 ghost use Rattle.right_run.specs.Turns.{IsInTurns};
 ghost use Rattle.mem_port.specs.ServiceHistory.{ServiceHistory, IsFirstHistory};
-ghost use Rattle.core_run.specs.Serial.{AreFirst};
+ghost use Rattle.core_run.specs.Outcomes.{AreFirst};
 ghost use Rattle.core_run.specs.declared.plain.Plain.{Plain};
 ghost use Rattle.core_run.specs.declared.serial.CoreSlot.{CoreSlot};
 

@@ -6,18 +6,20 @@ ghost use Rattle.timetable.specs.declared.End.{End};
 ghost use Rattle.timetable.specs.Outcome.{IsState};
 ghost use Rattle.mem_port.specs.Memory.{IsLawful, IsFresh, IsAtOnce, Keeps, Settles};
 ghost use Rattle.mem_port.specs.ServiceHistory.{ServiceHistory, IsFirstHistory};
-ghost use Rattle.mem_port.specs.Side.{LeavesOthers, ServesCore};
+ghost use Rattle.mem_port.specs.Side.{LeavesOthers, ServesCore, side_of};
 ghost use Rattle.core_run.specs.Lanes.{IsClosed};
-ghost use Rattle.core_run.specs.Serial.{SlotAt, IsRun, AreAt, AreFirst, Leads, IsServedAt, Receives, AreServed, IsServedRun, IsEndOf, end_after};
+ghost use Rattle.core_run.specs.Running.{IsServedAt};
+ghost use Rattle.core_run.specs.Outcomes.{AreFirst, IsRun, IsEndOf};
+ghost use Rattle.core_run.specs.Serial.{SlotAt, AreAt, Leads, Receives, AreServed, IsServedRun};
 ghost use Rattle.core_run.specs.declared.serial.CoreSlot.{CoreSlot};
 
-use crate::lane::{cycle, finish};
+use crate::lane::run_cycle;
 use crate::{Lane, TimedEngine};
-use mem_port::{MemoryCore, Progress};
+use mem_port::MemoryCore;
 use std::alloc::Global;
 use timetable::{CoreEnd, End, Outcome};
 
-/// One core's slot in the round.
+/// A core that is run: its engine, which of its requests are open, and how far it has come.
 #[derive(Drop)]
 pub struct CoreSlot<E> {
     pub engine: E,
@@ -29,7 +31,7 @@ pub struct CoreSlot<E> {
 }
 
 impl<E> CoreSlot<E> {
-    /// The slot of a core before its first turn.
+    /// The slot of a core before its first cycle.
     pub fn new(engine: E, core: u32) -> CoreSlot<E>
         ensures engine { result.engine ≡ engine }
         ensures core { result.lane.core ≡ core }
@@ -46,16 +48,6 @@ impl<E> CoreSlot<E> {
     }
 }
 
-/// How a core's cycle ends it, if it does: at a stop, or as the last one of its budget.
-fn end_after(progress: Progress, cycles: u32, budget: u32) -> Option<End>
-    ensures end { result ≡ end_after progress cycles budget }
-{
-    match progress {
-        Progress::Stopped(stop) => Some(End::Stopped(stop)),
-        Progress::Running => (cycles == budget).then_some(End::Spent),
-    }
-}
-
 /// The turn of a core: one cycle, if it runs on, and its end, if that was the last one.
 fn play<E: TimedEngine, M: MemoryCore>(memory: &mut M, slot: &mut CoreSlot<E>, budget: u32)
     requires serves { ServesCore (M.view memory.old) slot.old.lane.core }
@@ -68,21 +60,23 @@ fn play<E: TimedEngine, M: MemoryCore>(memory: &mut M, slot: &mut CoreSlot<E>, b
     ensures ended { (end : End) → slot.old.end ≡ Some end → memory.new ≡ memory.old }
     ensures served { (rounds : ℕ) (history : ServiceHistory)
         → SlotAt slot.old.lane.core rounds budget (M.view memory.old) (E.view slot.old.engine) slot.old.lane slot.old.end slot.old.cycles
-        → IsServedAt E.view E.timed (M.view memory.old) slot.old.engine slot.old.lane slot.old.end slot.old.cycles history
-        → (after : ServiceHistory) × (IsServedAt E.view E.timed (M.view memory.new) slot.new.engine slot.new.lane slot.new.end slot.new.cycles after
+        → IsServedAt E.view E.timed (side_of (M.view memory.old) slot.old.lane.core) slot.old.engine slot.old.lane slot.old.end slot.old.cycles history
+        → (after : ServiceHistory) × (IsServedAt E.view E.timed (side_of (M.view memory.new) slot.new.lane.core) slot.new.engine slot.new.lane slot.new.end slot.new.cycles after
         × (IsAtOnce (M.view memory.old) → Receives slot.old.lane.core (rounds + 1) (M.view memory.old).history (M.view memory.new).history history after)) }
 {
     if slot.end.is_some() {
         return;
     }
     let mut side = memory;
-    let progress = cycle(&mut slot.engine, &mut side, &mut slot.lane, 0);
+    slot.end = run_cycle(
+        &mut slot.engine,
+        &mut side,
+        &mut slot.lane,
+        0,
+        slot.cycles,
+        budget,
+    );
     slot.cycles += 1;
-    let Some(end) = end_after(progress, slot.cycles, budget) else {
-        return;
-    };
-    finish(&mut slot.engine, &mut side, &mut slot.lane);
-    slot.end = Some(end);
 }
 
 /// One round: the turn of each core, by rising number.
@@ -140,8 +134,8 @@ fn words_fit(words: &[u32])
     ensures { All (λ word. word < 2 ^ 32) words.now }
 {}
 
-/// What the slot of a core that has ended tells of its end.
-fn end_of<E: TimedEngine>(alloc: Global, slot: CoreSlot<E>) -> CoreEnd
+/// What the slot of a core that has ended tells of its end. It takes no memory.
+pub fn end_of<E: TimedEngine>(alloc: Global, slot: CoreSlot<E>) -> CoreEnd
     requires over { (end : End) × (slot.end ≡ Some end) }
     ensures end { IsEndOf (E.view slot.engine) (E.rows slot.engine) slot.end slot.cycles result }
     ensures state { IsState result.state }

@@ -1,6 +1,5 @@
 pub mod StartLaws
 pub mod SpellingLaws
-pub mod CodeLaws
 pub mod WordLaws
 pub mod NumberLaws
 pub mod RoundTripLaws

@@ -5,10 +5,10 @@ use Rattle.std.specs.Option.{IsSome}
 use Rattle.std.specs.List.{AllByRecursion, flat_map}
 use Rattle.std.proofs.lemmas.Bool.{cases_lt, ne_eqb}
 use Rattle.std.proofs.lemmas.List.Elements.{recursion_from_All}
+use Rattle.std_laws.proofs.ListLaws.{AllByRecursion-append}
 use Rattle.mips_isa.specs.Fields.{five_bits, instr_of, immediate_of}
 use Rattle.mips_isa.specs.Steps.{IsCode}
 use Rattle.image_file.specs.Value.{ImageValue, SegmentValue, segment_numbers, image_numbers, memory_bytes, IsNumber, AreApart, HasWords}
-use Rattle.image_file.proofs.SpellingLaws.{numbers_append}
 
 -- opcodes have six bits
 no_immediate : (opcode rs rt imm : ℕ) → 64 ≤ opcode → immediate_of opcode rs rt imm ≡ None
@@ -70,7 +70,7 @@ segments_fit end memory (segment ∷ segments) few apart words =
       omega (arith, within),
       (
         omega (arith, within),
-        numbers_append segment.words (flat_map segment_numbers segments) words.0
+        AllByRecursion-append IsNumber segment.words (flat_map segment_numbers segments) words.0
             (segments_fit behind memory segments few apart.2 words.1),
       ),
     )
@@ -86,7 +86,7 @@ numbers_fit image lines words segments code apart segment_words = (
       omega arith,
       (
         omega arith,
-        numbers_append image.code (flat_map segment_numbers image.segments)
+        AllByRecursion-append IsNumber image.code (flat_map segment_numbers image.segments)
             (code_fits image.code code) (segments_fit (4 * length image.code) (memory_bytes image) image.segments (omega arith) apart
             segment_words),
       ),

@@ -6,11 +6,14 @@ use Rattle.std.specs.Option.{IsSome}
 use Rattle.std.specs.List.{flat_map, AllByRecursion}
 use Rattle.std.specs.Int.{w32, to_le_bytes, from_le_bytes}
 use Rattle.std.proofs.lemmas.Bool.Decides.{nat_tests}
-use Rattle.std.proofs.lemmas.Bool.{eqb-true}
+use Rattle.std.proofs.lemmas.Bool.{eqb-true, leb-true}
 use Rattle.std.proofs.lemmas.List.{append-nil, nil_from_length}
 use Rattle.std.proofs.lemmas.List.Concat.{flat_map-append}
+use Rattle.std.proofs.lemmas.List.Elements.{All-from_recursion}
 use Rattle.std.proofs.lemmas.Nat.{le_bytes_4}
+use Rattle.std_laws.proofs.ListLaws.{AllByRecursion-append, AllByRecursion-weaker}
 use Rattle.mips_isa.specs.Fields.{instr_of}
+use Rattle.mips_isa.specs.Steps.{IsCode}
 use Rattle.image_file.specs.declared.fault.ImageCause.{ImageCause}
 use Rattle.image_file.specs.Value.{ImageValue, SegmentValue, segment_numbers, image_numbers, image_bytes, memory_bytes, IsNumber, AreApart}
 use Rattle.image_file.specs.Value.{IsGood}
@@ -18,8 +21,7 @@ use Rattle.kmp_base.specs.Bind.{◌>>=◌}
 use Rattle.kmp_base.proofs.ReadingLaws.{match_holds}
 use Rattle.image_file.specs.Reading.{Fault, judged, number_in, magic_in, lines_in, code_count_in, may_stand, word_in, words_in, fits}
 use Rattle.image_file.specs.Reading.{segment_in, end_of, segments_in, image_in}
-use Rattle.image_file.proofs.CodeLaws.{is_code}
-use Rattle.image_file.proofs.SpellingLaws.{number_bytes, numbers_append}
+use Rattle.image_file.proofs.SpellingLaws.{number_bytes}
 
 -- each is a byte
 abbrev pub AreBytes : List ℕ → Type 0
@@ -44,7 +46,7 @@ then_spelled size numbers more bytes middle rest first next = record {
       ∙ ap (λ left. number_bytes numbers ++ left) next.front
       ∙ sym (append_assoc (number_bytes numbers) (number_bytes more) rest)
       ∙ ap (λ front. front ++ rest) (sym (flat_map-append (to_le_bytes w32) numbers more));
-  fit = numbers_append numbers more first.fit next.fit;
+  fit = AllByRecursion-append IsNumber numbers more first.fit next.fit;
   behind = next.behind;
 }
 
@@ -118,9 +120,6 @@ record SegmentRead (size memory end : ℕ) (segment : SegmentValue) (bytes rest 
 has_room : (memory start count : ℕ) → fits memory start count ≡ true → (start % 4 ≡ 0) × (start + 4 * count ≤ memory)
 has_room memory start count passes = grind (arith, nat_tests)
 
-is_behind : (end start : ℕ) → nat_le end start ≡ true → end ≤ start
-is_behind end start passes = grind (arith, nat_tests)
-
 segment_read : (size memory end : ℕ) (bytes : List ℕ) → Left size bytes
     → Reads size (λ segment. SegmentRead size memory end segment.0 bytes segment.1) (segment_in memory end bytes)
 unfolding segment_in
@@ -135,7 +134,7 @@ segment_read size memory end bytes left =
     let room = has_room memory start.0 count.0 fitting in
     record {
       aligned = room.0;
-      from = is_behind end start.0 behind;
+      from = leb-true end start.0 behind;
       within = rw third.len room.1;
       spelled = rw third.len
           (then_spelled size (start.0 ∷ []) (count.0 ∷ words.0) bytes start.1 words.1 first
@@ -258,10 +257,10 @@ unfolding image_bytes
 only_spelling bytes image are read =
     (read_as bytes image are read).spelled.front ∙ append-nil (number_bytes (image_numbers image))
 
-are_instructions : (words : List ℕ) → AllByRecursion (λ word. may_stand true word ≡ true) words
-    → AllByRecursion (λ word. IsSome (instr_of word)) words
-are_instructions [] each = tt
-are_instructions (word ∷ words) each = (each.0, are_instructions words each.1)
+are_instructions : (words : List ℕ) → AllByRecursion (λ word. may_stand true word ≡ true) words → IsCode words
+are_instructions words each =
+    All-from_recursion (λ word. IsSome (instr_of word)) words
+    (AllByRecursion-weaker (λ word. may_stand true word ≡ true) (λ word. IsSome (instr_of word)) (λ word is. is) words each)
 
 pub good_image : (bytes : List ℕ) (image : ImageValue) → AreBytes bytes → length bytes < 2 ^ 32 → image_in bytes ≡ Ok image → IsGood image
 good_image bytes image are few read =
@@ -272,7 +271,7 @@ good_image bytes image are few read =
       some_code = parts.count.some;
       even_code = parts.count.even;
       code_words = parts.count.few;
-      code = is_code image.code (are_instructions image.code parts.code);
+      code = are_instructions image.code parts.code;
       apart = parts.apart;
       few_bytes = subst (λ (b : List ℕ). length b < 2 ^ 32) (only_spelling bytes image are read) few;
       numbers = parts.spelled.fit;

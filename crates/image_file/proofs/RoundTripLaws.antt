@@ -4,11 +4,13 @@ use Rattle.std.proofs.Common.{length, Ok, refl, sym, ap, ◌∙◌, append_assoc
 use Rattle.std.specs.Option.{IsSome}
 use Rattle.std.specs.List.{flat_map, AllByRecursion}
 use Rattle.std.specs.Int.{w32, to_le_bytes}
+use Rattle.std.proofs.lemmas.Bool.{le-leb}
 use Rattle.std.proofs.lemmas.Bool.Decides.{nat_tests}
 use Rattle.std.proofs.lemmas.List.{append-nil}
 use Rattle.std.proofs.lemmas.List.Concat.{flat_map-append}
 use Rattle.std.proofs.lemmas.List.Elements.{recursion_from_All}
 use Rattle.std.proofs.lemmas.Nat.{from_le_bytes-to_le_bytes_4}
+use Rattle.std_laws.proofs.ListLaws.{AllByRecursion-parts, AllByRecursion-weaker}
 use Rattle.mips_isa.specs.Fields.{instr_of}
 use Rattle.image_file.specs.Value.{ImageValue, SegmentValue, segment_numbers, image_numbers, image_bytes, memory_bytes, IsNumber, AreApart}
 use Rattle.image_file.specs.Value.{IsGood}
@@ -19,12 +21,6 @@ use Rattle.image_file.proofs.NumberLaws.{apart_within}
 
 abbrev AreNumbers : List ℕ → Type 0
 AreNumbers numbers = AllByRecursion IsNumber numbers
-
-apart_numbers : (numbers more : List ℕ) → AreNumbers (numbers ++ more) → AreNumbers numbers × AreNumbers more
-apart_numbers [] more are = (tt, are)
-apart_numbers (n ∷ numbers) more are =
-    let others = apart_numbers numbers more are.1 in
-    ((are.0, others.0), others.1)
 
 bytes_apart : (numbers more rest : List ℕ) → number_bytes (numbers ++ more) ++ rest ≡ number_bytes numbers ++ (number_bytes more ++ rest)
 bytes_apart numbers more rest =
@@ -50,15 +46,8 @@ words_back test (word ∷ words) rest are pass =
       words_back test words rest are.1 pass.1,
     ) refl
 
-any_words : (words : List ℕ) → AllByRecursion (λ word. may_stand false word ≡ true) words
-any_words [] = tt
-any_words (word ∷ words) = (refl, any_words words)
-
 room_passes : (memory start count : ℕ) → start % 4 ≡ 0 → start + 4 * count ≤ memory → fits memory start count ≡ true
 room_passes memory start count aligned within = grind (arith, nat_tests)
-
-behind_passes : (end start : ℕ) → end ≤ start → nat_le end start ≡ true
-behind_passes end start from = grind (arith, nat_tests)
 
 segment_from : (memory end : ℕ) (segment : SegmentValue) (bytes behind words rest : List ℕ)
     → number_in bytes ≡ Ok (segment.start, behind) → number_in behind ≡ Ok (length segment.words, words)
@@ -77,9 +66,9 @@ segment_back memory end segment rest aligned from within are =
     segment_from memory end segment (to_le_bytes w32 segment.start ++ behind) behind words rest
     (number_back segment.start behind are.0)
     (number_back (length segment.words) words are.1.0)
-    (words_back (may_stand false) segment.words rest are.1.1 (any_words segment.words))
+    (words_back (may_stand false) segment.words rest are.1.1 (AllByRecursion-weaker IsNumber _ (λ word is. refl) segment.words are.1.1))
     (room_passes memory segment.start (length segment.words) aligned within)
-    (behind_passes end segment.start from)
+    (le-leb end segment.start from)
 
 segments_back : (memory end : ℕ) (segments : List SegmentValue) (rest : List ℕ) → AreApart end memory segments
     → AreNumbers (flat_map segment_numbers segments)
@@ -88,7 +77,7 @@ unfolding segments_in
 segments_back memory end [] rest apart are = refl
 segments_back memory end (segment ∷ segments) rest apart are =
     let numbers = flat_map segment_numbers segments in
-    let both = apart_numbers (segment_numbers segment) numbers are in
+    let both = AllByRecursion-parts IsNumber (segment_numbers segment) numbers are in
     let within = apart_within (end_of segment) memory segments apart.2 in
     let first = segment_back memory end segment (number_bytes numbers ++ rest) apart.0 apart.1 within both.0 in
     let others = segments_back memory (end_of segment) segments rest apart.2 both.1 in
@@ -120,8 +109,8 @@ code_count_from memory count bytes rest read some even few within =
 
 instructions_pass : (words : List ℕ) → AllByRecursion (λ word. IsSome (instr_of word)) words
     → AllByRecursion (λ word. may_stand true word ≡ true) words
-instructions_pass [] each = tt
-instructions_pass (word ∷ words) each = (each.0, instructions_pass words each.1)
+instructions_pass words each =
+    AllByRecursion-weaker (λ word. IsSome (instr_of word)) (λ word. may_stand true word ≡ true) (λ word is. is) words each
 
 image_from : (image : ImageValue) (bytes lines count segment_count code segments : List ℕ)
     → magic_in bytes ≡ Ok lines → lines_in lines ≡ Ok (image.memory_lines, count)
@@ -137,7 +126,7 @@ image_back : (image : ImageValue) → IsGood image → image_in (number_bytes (i
 image_back image good =
     let are = good.numbers in
     let others = flat_map segment_numbers image.segments in
-    let both = apart_numbers image.code others are.1.1.1.1 in
+    let both = AllByRecursion-parts IsNumber image.code others are.1.1.1.1 in
     let segments = number_bytes others ++ [] in
     let code = number_bytes (image.code ++ others) in
     let segment_count = to_le_bytes w32 (length image.segments) ++ code in

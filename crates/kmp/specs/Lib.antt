@@ -1,4 +1,3 @@
-pub mod Given
 pub mod Outcome
 pub mod Replay
-pub mod Told
+pub mod Status

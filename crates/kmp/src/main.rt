@@ -2,25 +2,25 @@
 //! report.
 #![tactic(auto)]
 
-mod collected;
-mod ending;
-mod given;
-mod told;
+mod obey;
 mod tool;
+mod usage;
 mod verdict;
 
 use kmp_base::{StdSink, StdSource};
+use kmp_call::{given_words, tell_end, tell_reading, tell_split, texts};
+use kmp_words::Program;
 use std::env;
 use std::process::ExitCode;
 
 fn main(rt: HostRuntime) -> ExitCode {
-    let owned = given::given_words(rt.alloc(), env::args(&rt));
-    let words = given::texts(rt.alloc(), &owned);
-    told::tell_reading(&rt, &rt.stdin(), &words);
+    let owned = given_words(rt.alloc(), env::args(&rt));
+    let words = texts(rt.alloc(), &owned);
+    tell_reading(&rt, Program::Kmp, &rt.stdin(), &words);
     let mut source = StdSource::new(rt.stdin());
     let sink = StdSink::new(rt.stdout());
-    let (ending, _) = given::answer(rt.alloc(), &words, &mut source, sink);
-    told::tell_split(&rt, &ending.split);
-    told::tell_end(&rt, &words, ending.status);
+    let (ending, _) = tool::answer(rt.alloc(), &words, &mut source, sink);
+    tell_split(&rt, Program::Kmp, &ending.split);
+    tell_end(&rt, Program::Kmp, usage::USAGE, &words, ending.status);
     ExitCode::from(ending.status.code())
 }

@@ -1,49 +1,11 @@
 //! The rows of verdicts.
 ghost use Rattle.std.specs.Prelude.{◌≡◌, ◌+◌, ◌≤◌, ◌++◌, length, codes};
-ghost use Rattle.kmp.specs.Replay.{field_name, found_text, agrees_row, difference_row};
+ghost use Rattle.kmp.specs.Replay.{found_text, agrees_row, difference_row};
 
-use access_log::{Field, Found};
+use access_log::Found;
 use kmp_base::Row;
 use replayer::Difference;
-use report_rows::letter_name;
 use timetable::End;
-
-/// The field of an access, a transaction, an end or a memory in words.
-fn field_name(field: Field) -> &'static str
-    ensures name { result.now ≡ field_name field }
-    ensures short { length result.now ≤ 8 }
-{
-    match field {
-        Field::Nth => "nth",
-        Field::Kind => "kind",
-        Field::Addr => "addr",
-        Field::Old => "old",
-        Field::New => "new",
-        Field::Letter => "letter",
-        Field::Im => "im",
-        Field::Line => "line",
-        Field::Held => "held",
-        Field::Ch => "ch",
-        Field::Di => "di",
-        Field::Victim => "victim",
-        Field::Retired => "retired",
-        Field::End => "end",
-        Field::Cycles => "cycles",
-        Field::Rows => "rows",
-        Field::Pc => "pc",
-        Field::Dpc => "dpc",
-        Field::Register => "register",
-        Field::Word => "word",
-        Field::I => "I",
-        Field::F => "F",
-        Field::D => "D",
-        Field::E => "E",
-        Field::A => "A",
-        Field::M => "M",
-        Field::W => "W",
-        Field::Count => "count",
-    }
-}
 
 /// Appends an address and the word there.
 fn add_word(row: &mut Row, addr: u32, value: u32)
@@ -67,7 +29,7 @@ fn add_found(row: &mut Row, found: Found)
         Found::Number(n) => row.decimal(n),
         Found::Hex(word) => row.hex8(word),
         Found::Kind(kind) => row.text(kind.name()),
-        Found::Letter(letter) => row.text(letter_name(letter)),
+        Found::Letter(letter) => row.text(letter.name()),
         Found::End(Some(stop)) => row.text(stop.name()),
         Found::End(None) => row.text(End::Spent.name()),
         Found::Word(addr, value) => add_word(row, addr, value),
@@ -94,7 +56,7 @@ pub fn differs(difference: &Difference) -> Row
     row.text("replay differs line ");
     row.decimal(u64::from(difference.line));
     row.text(" field ");
-    row.text(field_name(difference.field));
+    row.text(difference.field.name());
     row.text(" kept ");
     add_found(&mut row, difference.kept);
     row.text(" found ");

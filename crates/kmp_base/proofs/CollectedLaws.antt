@@ -1,10 +1,10 @@
 -- What was written over a sink that collects, and then put beneath by its `finish`, was written beneath.
-use Rattle.std.proofs.Common.{◌≡◌, ℕ, List, [], ◌++◌, refl, sym, ◌∙◌, ap, append_assoc, append-nil, arith}
+use Rattle.std.proofs.Common.{◌≡◌, ℕ, List, [], ◌++◌, sym, ◌∙◌, ap, append_assoc, append-nil, arith}
 use Rattle.std.specs.Prelude.{Option, Some, None, Result, Ok, Err}
 use Rattle.std.specs.Io.KnownBytes.{append_known}
 use Rattle.kmp_base.specs.Bind.{◌>>=◌}
-use Rattle.kmp_base.proofs.StreamLaws.{append_known-append}
-use Rattle.kmp_base.specs.Streams.{Appended, AppendedPart, HoldsNothing, Writes}
+use Rattle.std_laws.proofs.OptionLaws.{append_known-append}
+use Rattle.kmp_base.specs.Streams.{AppendedPart, HoldsNothing, Writes}
 use Rattle.kmp_base.specs.Collected.{with_waiting, faults_beneath}
 use Rattle.kmp_base.specs.declared.collected.Collected.{Collected}
 
@@ -27,10 +27,10 @@ front (Some ys) (Some xs) new text left nothing is some =
       some.3 ∙ ap (λ front. Some (front ++ (xs ++ some.0))) (sym nothing),
     )
 
--- what is appended behind no waiting byte is appended to what is held beneath
-behind_none : (held : Option (List ℕ)) (waiting text : List ℕ) → waiting ≡ []
+-- where no byte waits, what is appended is appended to what is held beneath
+append_known-empty : (held : Option (List ℕ)) (waiting text : List ℕ) → waiting ≡ []
     → append_known (append_known held waiting) text ≡ append_known held text
-behind_none held waiting text empty = append_known-append held waiting text ∙ ap (λ front. append_known held (front ++ text)) empty
+append_known-empty held waiting text empty = append_known-append held waiting text ∙ ap (λ front. append_known held (front ++ text)) empty
 
 -- A call over the sink that collects, and `finish` behind it.
 pub writes_beneath : {K T U E : Type 0} (held : K → Option (List ℕ)) (faults : K → ℕ) (old new : Collected K) (sink : K)
@@ -38,7 +38,7 @@ pub writes_beneath : {K T U E : Type 0} (held : K → Option (List ℕ)) (faults
     → Writes (with_waiting held) (faults_beneath faults) old new called text → Writes held faults new.sink sink finished new.waiting.items
     → Writes held faults old.sink sink (called >>= (λ _. finished)) text
 writes_beneath held faults old new sink (Ok _) (Ok _) text nothing empty first second = record {
-  whole = second.whole ∙ first.whole ∙ behind_none (held old.sink) old.waiting.items text empty;
+  whole = second.whole ∙ first.whole ∙ append_known-empty (held old.sink) old.waiting.items text empty;
   no_fault = second.no_fault ∙ first.no_fault;
   part = tt;
   cause = tt;
@@ -48,7 +48,7 @@ writes_beneath held faults old new sink (Ok _) (Err _) text nothing empty first 
   whole = tt;
   no_fault = tt;
   part = front (held old.sink) (held new.sink) (held sink) text new.waiting.items nothing
-      (first.whole ∙ behind_none (held old.sink) old.waiting.items text empty) second.part;
+      (first.whole ∙ append_known-empty (held old.sink) old.waiting.items text empty) second.part;
   cause = omega (arith, first.no_fault, second.cause);
   later = omega (arith, first.later, second.later);
 }
@@ -56,7 +56,7 @@ writes_beneath held faults old new sink (Err _) (Ok _) text nothing empty first 
     let some = first.part in record {
       whole = tt;
       no_fault = tt;
-      part = (some.0, some.1, some.2, second.whole ∙ some.3 ∙ behind_none (held old.sink) old.waiting.items some.0 empty);
+      part = (some.0, some.1, some.2, second.whole ∙ some.3 ∙ append_known-empty (held old.sink) old.waiting.items some.0 empty);
       cause = omega (arith, first.cause, second.later);
       later = omega (arith, first.later, second.later);
     }
@@ -66,7 +66,7 @@ writes_beneath held faults old new sink (Err _) (Err _) text nothing empty first
       no_fault = tt;
       part = rw some.2 (part_more (held old.sink) (held sink) some.0 some.1
           (front (held old.sink) (held new.sink) (held sink) some.0 new.waiting.items nothing
-          (some.3 ∙ behind_none (held old.sink) old.waiting.items some.0 empty) second.part));
+          (some.3 ∙ append_known-empty (held old.sink) old.waiting.items some.0 empty) second.part));
       cause = omega (arith, first.cause, second.later);
       later = omega (arith, first.later, second.later);
     }

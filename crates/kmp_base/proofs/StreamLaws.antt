@@ -1,34 +1,16 @@
 -- Appends one after another, and reads one after another.
-use Rattle.std.proofs.Common.{◌≡◌, ℕ, ◌+◌, ◌-◌, ◌<◌, List, [], ◌++◌, length, get_or, take, drop, refl, sym, ◌∙◌, ap, append_assoc, arith}
+use Rattle.std.proofs.Common.{◌≡◌, ℕ, suc, ◌+◌, ◌<◌, List, ◌++◌, length, get_or, take, drop, sym, ◌∙◌, ap, append_assoc, arith}
 use Rattle.std.specs.List.{flat_map}
-use Rattle.std.proofs.lemmas.List.Concat.{flat_map-append}
-use Rattle.std.specs.Prelude.{Option, Some, None, Result, Ok, Err}
-use Rattle.std.proofs.lemmas.List.{take-append-drop, take_at, drop-drop, take_more, flat_map_more}
+use Rattle.std.specs.Prelude.{Option, Result, Ok, Err}
+use Rattle.std.proofs.Math.Seq.{split_at}
 use Rattle.std.specs.Io.KnownBytes.{append_known, prepend_known}
+use Rattle.std_laws.proofs.ListLaws.{flat_map_around, flat_map-take_more}
+use Rattle.std_laws.proofs.OptionLaws.{append_known-append, prepend_known-prepend}
 use Rattle.kmp_base.specs.Streams.{Took, Writes}
-
--- two appends are one
-pub append_known-append : (known : Option (List ℕ)) (a b : List ℕ) → append_known (append_known known a) b ≡ append_known known (a ++ b)
-append_known-append None a b = refl
-append_known-append (Some xs) a b = ap Some (append_assoc xs a b)
-
--- two texts in front are one
-pub prepend_known-prepend : (known : Option (List ℕ)) (a b : List ℕ)
-    → prepend_known a (prepend_known b known) ≡ prepend_known (a ++ b) known
-prepend_known-prepend None a b = refl
-prepend_known-prepend (Some xs) a b = ap Some (sym (append_assoc a b xs))
 
 -- more was taken
 pub took_more : (old mid new : Option (List ℕ)) (a b : List ℕ) → Took old mid a → Took mid new b → Took old new (a ++ b)
 took_more old mid new a b first second = first ∙ ap (prepend_known a) second ∙ prepend_known-prepend new a b
-
--- the n bytes from a place, copied to the front of a buffer, and then the bytes after them
-pub next_bytes : (bytes copy rest : List ℕ) (at n : ℕ) → length copy ≡ n → copy ≡ take (at + n - at) (drop at bytes)
-    → drop at bytes ≡ take n (copy ++ rest) ++ drop (at + n) bytes
-next_bytes bytes copy rest at n len is =
-    sym (take-append-drop n (drop at bytes)) ∙ ap (λ k. take k (drop at bytes) ++ drop n (drop at bytes)) (omega arith)
-    ∙ ap (λ front. front ++ drop n (drop at bytes)) (sym is ∙ sym (take_at copy rest n len))
-    ∙ ap (λ after. take n (copy ++ rest) ++ after) (drop-drop n at bytes)
 
 -- Calls that append one after another.
 
@@ -72,26 +54,13 @@ writes_stop {a} b stopped =
 
 -- A loop that appends a text for each item.
 
--- the texts of one item more
-pub flat_map_take : {X : Type 0} (f : X → List ℕ) (xs : List X) (i : ℕ) (d : X) → i < length xs
-    → flat_map f (take (i + 1) xs) ≡ flat_map f (take i xs) ++ f (get_or xs i d)
-flat_map_take f xs i d below =
-    ap (flat_map f) (take_more xs i d below) ∙ sym (flat_map_more f [] (take i xs) (get_or xs i d))
-
--- the texts of the items up to one, of that one, and of those behind it
-pub flat_map_whole : {X : Type 0} (f : X → List ℕ) (xs : List X) (i : ℕ) (d : X) → i < length xs
-    → flat_map f xs ≡ (flat_map f (take i xs) ++ f (get_or xs i d)) ++ flat_map f (drop (i + 1) xs)
-flat_map_whole f xs i d below =
-    ap (flat_map f) (sym (take-append-drop (i + 1) xs)) ∙ flat_map-append f (take (i + 1) xs) (drop (i + 1) xs)
-    ∙ ap (λ t. t ++ flat_map f (drop (i + 1) xs)) (flat_map_take f xs i d below)
-
 -- one turn
 pub writes_next : {K T U E X : Type 0} {held : K → Option (List ℕ)} {faults : K → ℕ} {old mid new : K} {value : T} {next : U}
     {piece : List ℕ} (f : X → List ℕ) (xs : List X) (i : ℕ) (d : X) → i < length xs → piece ≡ f (get_or xs i d)
     → Writes {E = E} held faults old mid (Ok value) (flat_map f (take i xs)) → Writes {E = E} held faults mid new (Ok next) piece
     → Writes {E = E} held faults old new (Ok next) (flat_map f (take (i + 1) xs))
 writes_next f xs i d below is before turn =
-    rw (flat_map_take f xs i d below, ← is) (writes_then before turn)
+    rw (flat_map-take_more f xs i d below, ← is) (writes_then before turn)
 
 -- the turn that fails
 pub writes_cut : {K T U E X : Type 0} {held : K → Option (List ℕ)} {faults : K → ℕ} {old mid new : K} {value : T} {fault : E}
@@ -99,7 +68,8 @@ pub writes_cut : {K T U E X : Type 0} {held : K → Option (List ℕ)} {faults :
     → Writes {E = E} held faults old mid (Ok value) (flat_map f (take i xs)) → Writes {T = U} held faults mid new (Err fault) piece
     → Writes {T = U} held faults old new (Err fault) (flat_map f xs)
 writes_cut f xs i d below is before turn =
-    rw (flat_map_whole f xs i d below, ← is) (writes_stop (flat_map f (drop (i + 1) xs)) (writes_then before turn))
+    let whole = ap (flat_map f) (split_at xs i d below) ∙ flat_map_around f (take i xs) (get_or xs i d) (drop (suc i) xs) in
+    rw (whole, ← is) (writes_stop (flat_map f (drop (suc i) xs)) (writes_then before turn))
 
 -- the same text in another form
 pub writes_as : {K T E : Type 0} {held : K → Option (List ℕ)} {faults : K → ℕ} {old new : K} {result : Result T E} {a b : List ℕ} → a ≡ b

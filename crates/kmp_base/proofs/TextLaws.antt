@@ -14,15 +14,6 @@ use Rattle.std.proofs.lemmas.Fmt.{length-decimal-le}
 pub decimal_fits : (n : ℕ) → n < 2 ^ 64 → length (decimal n) ≤ 20
 decimal_fits n fits = length-decimal-le 20 n (omega arith) (omega arith) fits
 
--- where a text is read as the number that it spells, that number is shown as the text
-pub shown_as_read : {E : Type 0} {result : Result ℕ E} {text shown : List ℕ} {n m : ℕ} → result ≡ Ok n → result ≡ Ok m → shown ≡ decimal m
-    → text ≡ decimal n → shown ≡ text
-shown_as_read read is shows spelled = cc
-
--- what is read is no fault
-pub read_without_fault : {E : Type 0} {result : Result ℕ E} {n : ℕ} {fault : E} → result ≡ Ok n → result ≡ Err fault → ⊥
-read_without_fault read is = cc
-
 -- The four bytes of a word, and their digits.
 
 word_bytes : (n : ℕ) → IsBytes (to_be_bytes w32 n)

@@ -1,2 +1,5 @@
-pub mod RunLaws
+pub mod BeneathLemmas
+pub mod CallLaws
+pub mod InputLaws
+pub mod RunLemmas
 pub mod StatusLemmas

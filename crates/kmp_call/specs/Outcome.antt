@@ -6,23 +6,19 @@ use Rattle.kmp_base.specs.declared.setup.Setup.{Setup}
 use Rattle.image_file.specs.Value.{ImageValue}
 use Rattle.report_text.specs.Report.{ReportValue}
 use Rattle.report_text.specs.Text.{report_text}
-use Rattle.report_text.specs.Form.{IsReport}
-use Rattle.kmp_words.specs.Input.{ReadsMeaning}
-use Rattle.kmp_words.specs.Program.{ProgramValue, image_in}
-use Rattle.kmp_words.specs.declared.input.Input.{Input}
+use Rattle.kmp_words.specs.Input.{limit_of, ReadsAll}
+use Rattle.kmp_words.specs.declared.input.Input.TheVariants as inputs
 use Rattle.kmp_words.specs.declared.input.Refusal.{Refusal}
+use Rattle.kmp_words.specs.declared.order.Order.{Order}
+use Rattle.kmp_words.specs.declared.order.Order.TheVariants as orders
 use Rattle.kmp_call.specs.Refused.{refusal_row}
 use Rattle.kmp_call.specs.Right.{IsReportOf}
 use Rattle.kmp_call.specs.Status.{status_of, after_write}
 use Rattle.kmp_call.specs.declared.status.Status.{Status}
 use Rattle.kmp_call.specs.declared.status.Status.TheVariants as statuses
 
--- What is due for a report: its text and the status of its ends.
-abbrev pub IsReportDue : ReportValue → List ℕ → Status → Type 0
-IsReportDue report text due = IsReport report × (text ≡ report_text report) × (due ≡ status_of report)
-
--- What is due for the run of an input with this meaning: the text of a right report and the status of its ends, or the
--- row of the refusal.
+-- What is due for the run of what was loaded: the text of a right report and the status of its ends, or the row of the
+-- refusal.
 abbrev pub IsRunDue : Setup → Result ImageValue Refusal → List ℕ → Status → Type 0
 IsRunDue setup (Ok image) text due =
     (report : ReportValue) × IsReportOf setup image report × (text ≡ report_text report) × (due ≡ status_of report)
@@ -48,13 +44,23 @@ pub record RunsOut {K : Type 0} (old new : K) (status : Status) : Type 0 where
   pub sink_kept : new ≡ old
   pub status_is : status ≡ statuses.NoMemory
 
--- An input that means an image was read without a fault, and what is due for its meaning was written.
-pub record FulfilsImage {S K : Type 0} (left : S → Option (List ℕ)) (read_faults : S → ℕ) (held : K → Option (List ℕ))
-    (write_faults : K → ℕ) (input : Input) (IsDue : Result ImageValue Refusal → List ℕ → Status → Type 0) (source source' : S)
-    (sink sink' : K) (status : Status) : Type 0 where
-  pub meaning : Result ProgramValue Refusal
-  pub reads : ReadsMeaning left read_faults source source' input meaning
-  pub finishes : Finishes held write_faults sink sink' (IsDue (image_in meaning)) status
+-- the most bytes of a report that is checked
+abbrev pub report_limit : ℕ
+report_limit = 268435456
+
+-- the most bytes of an order's input
+abbrev pub input_limit : Order → ℕ
+input_limit (orders.Run setup input) = limit_of input
+input_limit (orders.Asm memory_lines) = limit_of (inputs.Source memory_lines)
+input_limit orders.Replay = report_limit
+
+-- An input was read without a fault, and what is due for its bytes was written.
+pub record Fulfils {S K : Type 0} (left : S → Option (List ℕ)) (read_faults : S → ℕ) (held : K → Option (List ℕ)) (write_faults : K → ℕ)
+    (limit : ℕ) (IsDue : List ℕ → List ℕ → Status → Type 0) (source source' : S) (sink sink' : K) (status : Status) : Type 0 where
+  pub bytes : List ℕ
+  pub reads : ReadsAll limit (left source) (left source') bytes
+  pub no_fault : read_faults source' ≡ read_faults source
+  pub finishes : Finishes held write_faults sink sink' (IsDue bytes) status
 
 -- A read failed, and nothing was written.
 pub record FailsToRead {S K : Type 0} (read_faults : S → ℕ) (source source' : S) (sink sink' : K) (status : Status) : Type 0 where
@@ -73,6 +79,8 @@ IsUnfulfilled read_faults source source' sink sink' status =
     FailsToRead read_faults source source' sink sink' status ⊎ LacksMemory read_faults source source' sink sink' status
 
 -- How an order ends: it is fulfilled, or a read failed, or memory ran out. There is no other case.
-abbrev pub EndsBy : {S K : Type 0} → (S → ℕ) → Type 0 → S → S → K → K → Status → Type 0
-EndsBy read_faults IsFulfilled source source' sink sink' status =
-    IsFulfilled ⊎ IsUnfulfilled read_faults source source' sink sink' status
+abbrev pub Ends : {S K : Type 0} → (S → Option (List ℕ)) → (S → ℕ) → (K → Option (List ℕ)) → (K → ℕ) → ℕ → (List ℕ → List ℕ → Status
+    → Type 0) → S → S → K → K → Status → Type 0
+Ends left read_faults held write_faults limit IsDue source source' sink sink' status =
+    Fulfils left read_faults held write_faults limit IsDue source source' sink sink' status
+    ⊎ IsUnfulfilled read_faults source source' sink sink' status

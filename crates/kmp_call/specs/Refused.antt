@@ -20,16 +20,16 @@ abbrev pub word_row : WordFault → List ℕ
 word_row fault = refused_row (number_of fault.cause) (name_of fault.cause) (codes "word") fault.word
   where
     number_of : WordCause → ℕ
-    number_of words.NoCommand = 20
-    number_of words.UnknownCommand = 21
+    number_of (words.NoCommand program) = 20
+    number_of (words.UnknownCommand program) = 21
     number_of words.UnknownOption = 22
     number_of words.OptionTwice = 23
     number_of words.BadValue = 24
     number_of words.Excluded = 25
 
     name_of : WordCause → List ℕ
-    name_of words.NoCommand = codes "NoCommand"
-    name_of words.UnknownCommand = codes "UnknownCommand"
+    name_of (words.NoCommand program) = codes "NoCommand"
+    name_of (words.UnknownCommand program) = codes "UnknownCommand"
     name_of words.UnknownOption = codes "UnknownOption"
     name_of words.OptionTwice = codes "OptionTwice"
     name_of words.BadValue = codes "BadValue"

@@ -1,5 +1,5 @@
 -- The status of each way in which the program ends.
-use Rattle.std.specs.Prelude.{ℕ, Result, Ok, Err, if◌then◌else◌}
+use Rattle.std.specs.Prelude.{◌≡◌, ◌⊎◌, ℕ, Result, Ok, Err, if◌then◌else◌}
 use Rattle.std.specs.List.{list_all}
 use Rattle.report_rows.specs.Ends.{EndValue}
 use Rattle.timetable.specs.Outcome.{is_halt}
@@ -28,3 +28,7 @@ status_of report = if list_all (λ (core : EndValue). is_halt core.end) report.c
 abbrev pub after_write : {T E : Type 0} → Status → Result T E → Status
 after_write due (Ok value) = due
 after_write due (Err fault) = WriteFault
+
+-- A status that tells what became of an input, and no fault of words, streams or memory.
+abbrev pub IsOfInput : Status → Type 0
+IsOfInput status = (code_of status ≡ 0) ⊎ ((code_of status ≡ 1) ⊎ ((code_of status ≡ 3) ⊎ (code_of status ≡ 7)))

@@ -33,8 +33,8 @@ pub fn of_words(fault: WordFault) -> Row
 {
     let word = u64::from(fault.word);
     match fault.cause {
-        WordCause::NoCommand => refused(20, "NoCommand", "word", word),
-        WordCause::UnknownCommand => refused(21, "UnknownCommand", "word", word),
+        WordCause::NoCommand(_) => refused(20, "NoCommand", "word", word),
+        WordCause::UnknownCommand(_) => refused(21, "UnknownCommand", "word", word),
         WordCause::UnknownOption => refused(22, "UnknownOption", "word", word),
         WordCause::OptionTwice => refused(23, "OptionTwice", "word", word),
         WordCause::BadValue => refused(24, "BadValue", "word", word),

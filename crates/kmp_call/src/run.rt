@@ -1,67 +1,110 @@
-//! A run behind a loaded image, whatever engine and turns it went by.
-ghost use Rattle.std.specs.Prelude.{◌≡◌, ◌⊎◌, ◌*◌, length, IfOk};
-ghost use Rattle.kmp_base.specs.Limits.{IsWithinLimits};
-ghost use Rattle.kmp_base.specs.declared.setup.MachineKind.TheVariants.{Plain};
+//! The run of an input, whatever engine and turns it goes by.
+ghost use Rattle.std.specs.Prelude.{◌≡◌, ◌⊎◌, ◌*◌, ◌<◌, length, Ok, IfOk};
+ghost use Rattle.std.specs.List.{AllByRecursion};
+ghost use Rattle.access_log.specs.Items.{entries};
 ghost use Rattle.right_run.specs.Right.{IsRight};
-ghost use Rattle.report_text.specs.Form.{IsReport};
-ghost use Rattle.report_text.specs.Report.{report_of};
+ghost use Rattle.right_run.specs.Turns.{IsInTurns};
 ghost use Rattle.report_text.specs.Text.{report_text};
+ghost use Rattle.kmp_words.specs.declared.program.Program.{Program};
+ghost use Rattle.kmp_words.specs.Input.{limit_of, meaning_of};
+ghost use Rattle.kmp_words.specs.Loaded.{image_in};
+ghost use Rattle.kmp_words.specs.Words.{IsRunnableSetup, IsProperInput};
+ghost use Rattle.kmp_call.specs.Right.{IsReportOf};
 ghost use Rattle.kmp_call.specs.Status.{status_of};
-ghost use Rattle.kmp_call.specs.Outcome.{Answers, Finishes, RunsOut, IsReportDue};
+ghost use Rattle.kmp_call.specs.Outcome.{Answers, Finishes, RunsOut, IsRunDue, Ends};
+ghost use Rattle.kmp_call.specs.Told.{TellsInput};
 
+use crate::ending::Ending;
+use crate::last_row::refuse_input;
 use crate::status::{Status, status_of};
 use image_file::Image;
-use kmp_base::{Setup, Sink, WriteFault};
-use report_text::{NoMemory, Report, build_report, print_report};
+use kmp_base::{NoMemory, Setup, Sink, Source};
+use kmp_words::{Input, LoadFault, Loaded, Program, load};
+use report_build::build_report;
+use report_print::print_report;
+use report_text::Report;
 use std::alloc::Global;
 use timetable::Outcome;
 
-// The report of an outcome, whose text can be read again.
-fn report_of(
+/// What runs the images of a program.
+pub trait Runner {
+    /// The program.
+    ghost program: { Program };
+
+    /// The program, whose words are read.
+    fn program(&self) -> Program
+        ensures is { result ≡ program };
+
+    /// Runs an image to the ends of its cores. All memory is taken before the first cycle.
+    fn run(&self, alloc: Global, image: &Image, setup: &Setup) -> Result<Outcome, NoMemory>
+        requires runnable { IsRunnableSetup program setup.now }
+        ensures right { IfOk result (IsRight setup.now image.now) }
+        ensures turns { IfOk result (λ outcome. IsInTurns setup.now (entries outcome.items)) }
+        ensures cores { IfOk result (λ outcome. length outcome.cores ≡ setup.now.cores) }
+        ensures words { IfOk result (λ outcome. length outcome.words ≡ 2 * image.now.memory_lines) }
+        ensures within { IfOk result (λ outcome. AllByRecursion (λ entry. entry.core < setup.now.cores) (entries outcome.items)) };
+}
+
+// The report of an image's run.
+fn report_run<R: Runner>(
+    runner: &R,
     alloc: Global,
     setup: &Setup,
     image: Image,
-    outcome: Outcome,
 ) -> Result<Report, NoMemory>
-    requires limits { IsWithinLimits setup.now }
-    requires plain { setup.now.machine ≡ Plain }
-    requires cores { length outcome.cores ≡ setup.now.cores }
-    requires words { length outcome.words ≡ 2 * image.memory_lines }
-    requires right { IsRight setup.now image outcome }
-    ensures report { IfOk result (λ report. report ≡ report_of setup.now image outcome) }
-    ensures form { IfOk result IsReport }
+    requires runnable { IsRunnableSetup R.program setup.now }
+    ensures report { IfOk result (λ report. IsReportOf setup.now image report) }
 {
-    let report = build_report(alloc, setup, image, outcome)?;
-    Ok(report)
+    let outcome = runner.run(alloc, &image, setup)?;
+    build_report(alloc, setup, image, outcome)
 }
 
 // Writes a report.
 fn write_report<K: Sink>(report: &Report, sink: &mut K) -> Status
-    ensures { Answers K.held K.faults sink.old sink.new (report_text report.now) (status_of report.now) result }
+    ensures answers { Answers K.held K.faults sink.old sink.new (report_text report.now) (status_of report.now) result }
 {
-    match print_report(report, sink) {
-        Ok(()) => status_of(report),
-        Err(WriteFault) => Status::WriteFault,
-    }
+    status_of(report).after_write(print_report(report, sink))
 }
 
-/// Writes the report of a run's outcome, and answers the status of its ends. Nothing is written without memory.
-pub fn write_run<K: Sink>(
+// Runs an image and writes the report, or nothing without memory.
+fn run<R: Runner, K: Sink>(
+    runner: &R,
     alloc: Global,
     setup: &Setup,
     image: Image,
-    outcome: Outcome,
     sink: &mut K,
 ) -> Status
-    requires limits { IsWithinLimits setup.now }
-    requires plain { setup.now.machine ≡ Plain }
-    requires cores { length outcome.cores ≡ setup.now.cores }
-    requires words { length outcome.words ≡ 2 * image.memory_lines }
-    requires right { IsRight setup.now image outcome }
-    ensures written { Finishes K.held K.faults sink.old sink.new (IsReportDue (report_of setup.now image outcome)) result ⊎ RunsOut sink.old sink.new result }
+    requires runnable { IsRunnableSetup R.program setup.now }
+    ensures written { Finishes K.held K.faults sink.old sink.new (IsRunDue setup.now (Ok image)) result ⊎ RunsOut sink.old sink.new result }
 {
-    match report_of(alloc, setup, image, outcome) {
+    match report_run(runner, alloc, setup, image) {
         Ok(report) => write_report(&report, sink),
         Err(_) => Status::NoMemory,
+    }
+}
+
+/// Reads an input and runs it, or refuses it.
+pub fn obey_run<R: Runner, S: Source, K: Sink>(
+    runner: &R,
+    alloc: Global,
+    setup: &Setup,
+    input: Input,
+    source: &mut S,
+    sink: &mut K,
+) -> Ending
+    requires runnable { IsRunnableSetup R.program setup.now }
+    requires proper { IsProperInput input }
+    ensures ends { Ends S.left S.faults K.held K.faults (limit_of input) (λ bytes. IsRunDue setup.now (image_in (meaning_of input bytes)))
+        source.old source.new sink.old sink.new result.status }
+    ensures tells { TellsInput S.left S.faults input source.old source.new sink.old sink.new result.status result.split.items }
+{
+    match load(alloc, source, input) {
+        Ok(Loaded { image, split }) => Ending {
+            status: run(runner, alloc, setup, image, sink),
+            split,
+        },
+        Err(LoadFault::Refused(refusal)) => Ending::of(alloc, refuse_input(refusal, sink)),
+        Err(LoadFault::Read) => Ending::of(alloc, Status::ReadFault),
+        Err(LoadFault::Memory) => Ending::of(alloc, Status::NoMemory),
     }
 }

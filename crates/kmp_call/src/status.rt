@@ -2,8 +2,9 @@
 ghost use Rattle.std.specs.Prelude.{◌≡◌};
 ghost use Rattle.std.specs.List.{list_all};
 ghost use Rattle.timetable.specs.Outcome.{is_halt};
-ghost use Rattle.kmp_call.specs.Status.{code_of, status_of};
+ghost use Rattle.kmp_call.specs.Status.{code_of, after_write, status_of};
 
+use kmp_base::WriteFault;
 use kmp_words::{Refusal, WordFault};
 use report_text::Report;
 use std::error::Error;
@@ -84,6 +85,16 @@ impl Status {
             Status::NoMemory => 6,
             Status::Differs(_) => 7,
             Status::WordsUnreadable => 8,
+        }
+    }
+
+    /// The status behind a write: this one, or a write fault.
+    pub fn after_write(self, written: Result<(), WriteFault>) -> Status
+        ensures status { result ≡ after_write self written }
+    {
+        match written {
+            Ok(()) => self,
+            Err(WriteFault) => Status::WriteFault,
         }
     }
 }

@@ -1,16 +1,22 @@
 -- What options come to.
 use Rattle.std.proofs.Common.{◌≡◌, ℕ, ◌+◌, ◌^◌, ◌<◌, ◌≤◌, Bool, true, false, List, Bor, length, get_or, drop, [], ◌∷◌, Option, Some, None}
-use Rattle.std.proofs.Common.{option_and_then, option_map, Result, Ok, Err, decimal, refl, arith}
+use Rattle.std.proofs.Common.{option_and_then, option_map, Result, Ok, Err, codes, decimal, refl, sym, subst, arith}
+use Rattle.kmp_base.specs.Limits.{IsWithinLimits}
 use Rattle.std.specs.Prelude.{IfSome, is_some, nat_lt, nat_le, ◌&&◌, if◌then◌else◌}
 use Rattle.std.specs.Str.{bytes_eq}
 use Rattle.std.specs.Str.Parse.{digits_value}
 use Rattle.std.specs.Option.{option_len, option_map_or, ok_or}
 use Rattle.std.proofs.lemmas.Fmt.{decimal_is_IsNumeral}
+use Rattle.std.proofs.lemmas.Bool.{false_from_ne_true}
 use Rattle.std.proofs.lemmas.Bool.Decides.{nat_tests}
+use Rattle.std.proofs.lemmas.Option.{same_Some}
+use Rattle.std_laws.proofs.OptionLaws.{cond_some_parts}
 use Rattle.std.proofs.lemmas.Slice.Eq.{bytes_eq-Decides}
 use Rattle.std.proofs.lemmas.List.{drop_more}
 use Rattle.kmp_base.specs.declared.setup.MachineKind.TheVariants as machines
 use Rattle.kmp_base.specs.declared.setup.Turns.TheVariants as turns
+use Rattle.kmp_words.specs.declared.program.Program.{Program}
+use Rattle.kmp_words.specs.declared.program.Program.TheVariants as programs
 use Rattle.kmp_words.specs.declared.options.Command.{Command}
 use Rattle.kmp_words.specs.declared.options.Command.TheVariants as commands
 use Rattle.kmp_words.specs.declared.input.Input.TheVariants as inputs
@@ -23,22 +29,15 @@ use Rattle.kmp_words.specs.declared.fault.WordCause.TheVariants.{UnknownOption, 
 use Rattle.kmp_base.specs.Bind.{◌>>=◌}
 use Rattle.kmp_words.specs.Words.{name_in, value_in, number_in, lines_of, no_options, options_of, stands_in, with_option, at_word}
 use Rattle.kmp_words.specs.Words.{fault_where, option_in, options_from, number_within, machine_names, turns_names, or_default, setup_of}
-use Rattle.kmp_words.specs.Words.{memory_lines, order_of, texts_of, IsProperInput, IsRunnableSetup, IsRunnable}
-
-same : (text : List ℕ) → bytes_eq text text ≡ true
-same text = grind (arith, bytes_eq-Decides)
+use Rattle.kmp_words.specs.Words.{memory_lines, input_of, order_of, command_names, texts_of, IsProperInput, IsRunnable}
 
 -- a text that isn't a name differs from it
 pub differs : (name text : List ℕ) → (text ≡ name → ⊥) → bytes_eq name text ≡ false
-differs name text other = judged (bytes_eq name text) refl
-  where
-    judged : (is_same : Bool) → bytes_eq name text ≡ is_same → is_same ≡ false
-    judged false e = refl
-    judged true e = absurd (other (grind (arith, bytes_eq-Decides)))
+differs name text other = false_from_ne_true (bytes_eq name text) (λ is. other (sym ((bytes_eq-Decides name text).0 is)))
 
 -- the spelling of a number spells it
 pub number_in_decimal : (text : List ℕ) (n : ℕ) → n < 2 ^ 64 → text ≡ decimal n → number_in text ≡ Some n
-number_in_decimal text n fits is = rw (is, (decimal_is_IsNumeral n fits).1, same (decimal n)) refl
+number_in_decimal text n fits is = rw (is, (decimal_is_IsNumeral n fits).1, (bytes_eq-Decides (decimal n) (decimal n)).1 refl) refl
 
 -- a text that spells no number of 64 bits has no value, where greater ones have none
 no_number : {A : Type 0} (f : ℕ → Option A) (text : List ℕ) → ((number : ℕ) → 2 ^ 64 ≤ number → f number ≡ None)
@@ -172,8 +171,7 @@ within_bounds least most (Some number) n is = grind (arith, nat_tests)
 
 -- the one value of a table of one entry
 one_value : {T : Type 0} (found : Bool) (value other : T) → (if found then Some value else None) ≡ Some other → other ≡ value
-one_value true value other is = cc
-one_value false value other is = absurd cc
+one_value found value other is = sym (same_Some value other (cond_some_parts found (Some value) other is).1)
 
 with_proper : (options more : Options) (name : OptionName) (word : ℕ) (value : Option (List ℕ))
     → with_option options name word value ≡ Some more → AreProper options → AreProper more
@@ -276,31 +274,85 @@ meant : {A : Type 0} (P : A → Type 0) (default : A) (option : Option A) → P 
 meant P default None here there = here
 meant P default (Some x) here there = there
 
-setup_runnable : (options : Options) → AreProper options → IsRunnableSetup (setup_of options)
-setup_runnable options proper =
+setup_limits : (options : Options) → AreProper options → IsWithinLimits (setup_of options)
+setup_limits options proper =
     let cores = meant (λ n. (1 ≤ n) × (n ≤ 8)) 1 options.cores (omega arith, omega arith) proper.cores_are in
     let budget = meant (λ n. (1 ≤ n) × (n ≤ 100000)) 20000 options.budget (omega arith, omega arith) proper.budget_is in
     record {
-      limits = record {
-        some_cores = cores.0;
-        cores = cores.1;
-        some_budget = budget.0;
-        budget = budget.1;
-        power_of_two = (4, refl);
-        sets = omega arith;
-        some_ways = omega arith;
-        ways = omega arith;
-      };
-      plain = meant (λ machine. machine ≡ machines.Plain) machines.Plain options.machine refl proper.machine_is;
-      round = meant (λ order. order ≡ turns.Round) turns.Round options.turns refl proper.turns_are;
+      some_cores = cores.0;
+      cores = cores.1;
+      some_budget = budget.0;
+      budget = budget.1;
+      power_of_two = (4, refl);
+      sets = omega arith;
+      some_ways = omega arith;
+      ways = omega arith;
     }
 
--- what a command with such options asks for can be carried out
-pub order_runnable : (command : Command) (options : Options) → AreProper options → IsRunnable (order_of command options)
-order_runnable commands.Run options proper =
-    (setup_runnable options proper, input_proper options.image (memory_lines options) (lines_within options.memory proper.memory_is))
-order_runnable commands.Asm options proper = lines_within options.memory proper.memory_is
-order_runnable commands.Replay options proper = tt
+setup_plain : (options : Options) → AreProper options → (setup_of options).machine ≡ machines.Plain
+setup_plain options proper = meant (λ machine. machine ≡ machines.Plain) machines.Plain options.machine refl proper.machine_is
+
+input_is_proper : (options : Options) → AreProper options → IsProperInput (input_of options)
+input_is_proper options proper = input_proper options.image (memory_lines options) (lines_within options.memory proper.memory_is)
+
+-- the commands of each program
+abbrev IsOf : Program → Command → Type 0
+IsOf programs.Kmp commands.RunOnThreads = ⊥
+IsOf programs.Kmp other = Unit {0}
+IsOf programs.KmpMp commands.RunOnThreads = Unit {0}
+IsOf programs.KmpMp other = ⊥
+
+pub named_is_of : (program : Program) (text : List ℕ) (command : Command) → named (command_names program) text ≡ Some command
+    → IsOf program command
+named_is_of programs.Kmp text command is = by_tests (bytes_eq (codes "run") text) (bytes_eq (codes "asm") text) (bytes_eq (codes "replay") text) command is
+  where
+    by_tests : (run asm replay : Bool) (command : Command)
+        → (if run then Some commands.Run else if asm then Some commands.Asm else if replay then Some commands.Replay else None) ≡ Some command
+        → IsOf programs.Kmp command
+    by_tests run asm replay commands.Run is = tt
+    by_tests run asm replay commands.Asm is = tt
+    by_tests run asm replay commands.Replay is = tt
+    by_tests true asm replay commands.RunOnThreads is = absurd cc
+    by_tests false true replay commands.RunOnThreads is = absurd cc
+    by_tests false false true commands.RunOnThreads is = absurd cc
+    by_tests false false false commands.RunOnThreads is = absurd cc
+named_is_of programs.KmpMp text command is =
+    subst (IsOf programs.KmpMp) (sym (one_value (bytes_eq (codes "run") text) commands.RunOnThreads command is)) tt
+
+-- what a program's command with such options asks for can be carried out
+pub order_runnable : (program : Program) (command : Command) (options : Options) → IsOf program command → AreProper options
+    → IsRunnable program (order_of command options)
+order_runnable programs.Kmp commands.Run options is proper = (
+  record {
+    limits = setup_limits options proper;
+    plain = setup_plain options proper;
+    turns = meant (λ order. order ≡ turns.Round) turns.Round options.turns refl proper.turns_are;
+  },
+  input_is_proper options proper,
+)
+order_runnable programs.KmpMp commands.RunOnThreads options is proper = (
+  record {
+    limits = let limits = setup_limits options proper in record {
+      some_cores = limits.some_cores;
+      cores = limits.cores;
+      some_budget = limits.some_budget;
+      budget = limits.budget;
+      power_of_two = limits.power_of_two;
+      sets = limits.sets;
+      some_ways = limits.some_ways;
+      ways = limits.ways;
+    };
+    plain = setup_plain options proper;
+    turns = refl;
+  },
+  input_is_proper options proper,
+)
+order_runnable programs.Kmp commands.Asm options is proper = lines_within options.memory proper.memory_is
+order_runnable programs.Kmp commands.Replay options is proper = tt
+order_runnable programs.Kmp commands.RunOnThreads options is proper = absurd is
+order_runnable programs.KmpMp commands.Run options is proper = absurd is
+order_runnable programs.KmpMp commands.Asm options is proper = absurd is
+order_runnable programs.KmpMp commands.Replay options is proper = absurd is
 
 -- the options behind a word
 pub options_go_on : (command : Command) (word : ℕ) (options next : Options) (texts : List (Bor (List ℕ))) (i : ℕ) (d : Bor (List ℕ))

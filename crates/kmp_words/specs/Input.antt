@@ -12,8 +12,8 @@ use Rattle.asm_parse.specs.Lines.{statements_of}
 use Rattle.asm_layout.specs.DelaySlots.{split_lines}
 use Rattle.asm_link.specs.Assembly.{image_of}
 use Rattle.kmp_base.specs.Bind.{◌>>=◌}
-use Rattle.kmp_words.specs.Program.{ProgramValue, value_of}
-use Rattle.kmp_words.specs.declared.input.Program.{Program}
+use Rattle.kmp_words.specs.Loaded.{LoadedValue, value_of}
+use Rattle.kmp_words.specs.declared.input.Loaded.{Loaded}
 use Rattle.kmp_words.specs.declared.input.Input.{Input}
 use Rattle.kmp_words.specs.declared.input.Input.TheVariants as inputs
 use Rattle.kmp_words.specs.declared.input.Refusal.{Refusal}
@@ -32,20 +32,20 @@ or_refused refusal (Ok meaning) = Ok meaning
 or_refused refusal (Err fault) = Err (refusal fault)
 
 -- The program of statements, in a memory of so many lines of 8 bytes.
-abbrev pub program_of : ℕ → List Statement → Result ProgramValue (AsmCause × ℕ)
-program_of memory_lines statements = image_of memory_lines statements >>= λ image.
+abbrev pub loaded_of : ℕ → List Statement → Result LoadedValue (AsmCause × ℕ)
+loaded_of memory_lines statements = image_of memory_lines statements >>= λ image.
     Ok (record { image = image; split = split_lines statements })
 
 -- The program that bytes mean, as many as there are: that of the statements of a source, or the image that they spell.
-abbrev pub program_from : Input → List ℕ → Result ProgramValue Refusal
-program_from (inputs.Source memory_lines) text =
-    or_refused (λ fault. Asm fault.0 fault.1) (statements_of text >>= λ statements. program_of memory_lines statements)
-program_from inputs.Image bytes =
+abbrev pub loaded_from : Input → List ℕ → Result LoadedValue Refusal
+loaded_from (inputs.Source memory_lines) text =
+    or_refused (λ fault. Asm fault.0 fault.1) (statements_of text >>= λ statements. loaded_of memory_lines statements)
+loaded_from inputs.Image bytes =
     or_refused (λ fault. Image fault.0 fault.1) (image_meaning bytes >>= λ image. Ok (record { image = image; split = [] }))
 
 -- The program that an input means, or its refusal.
-unfoldable pub meaning_of : Input → List ℕ → Result ProgramValue Refusal
-meaning_of input bytes = if nat_lt (limit_of input) (length bytes) then Err (TooLong (limit_of input)) else program_from input bytes
+unfoldable pub meaning_of : Input → List ℕ → Result LoadedValue Refusal
+meaning_of input bytes = if nat_lt (limit_of input) (length bytes) then Err (TooLong (limit_of input)) else loaded_from input bytes
 
 -- The input was read to its end, which is within the limit, or one byte more than the limit was taken.
 pub record ReadsAll (limit : ℕ) (old new : Option (List ℕ)) (bytes : List ℕ) : Type 0 where
@@ -54,15 +54,15 @@ pub record ReadsAll (limit : ℕ) (old new : Option (List ℕ)) (bytes : List �
 
 -- An input with this meaning was read without a fault.
 pub record ReadsMeaning {S : Type 0} (left : S → Option (List ℕ)) (faults : S → ℕ) (old new : S) (input : Input)
-    (meaning : Result ProgramValue Refusal) : Type 0 where
+    (meaning : Result LoadedValue Refusal) : Type 0 where
   pub bytes : List ℕ
   pub reads : ReadsAll (limit_of input) (left old) (left new) bytes
   pub no_fault : faults new ≡ faults old
   pub means : meaning_of input bytes ≡ meaning
 
 -- A function answers a meaning, unless memory ran out.
-abbrev pub Gives : Result ProgramValue Refusal → Result Program LoadFault → Type 0
-Gives meaning (Ok program) = meaning ≡ Ok (value_of program)
+abbrev pub Gives : Result LoadedValue Refusal → Result Loaded LoadFault → Type 0
+Gives meaning (Ok loaded) = meaning ≡ Ok (value_of loaded)
 Gives meaning (Err (loads.Refused refusal)) = meaning ≡ Err refusal
 Gives meaning (Err loads.Read) = ⊥
 Gives meaning (Err loads.Memory) = Unit {0}
@@ -78,8 +78,8 @@ of_image images.Memory = loads.Memory
 of_image (images.At cause byte) = loads.Refused (Image cause byte)
 
 -- What loading answers: the program or the refusal that the input means, a failed read, or want of memory.
-abbrev pub Loads : {S : Type 0} → (S → Option (List ℕ)) → (S → ℕ) → S → S → Input → Result Program LoadFault → Type 0
-Loads left faults old new input (Ok program) = ReadsMeaning left faults old new input (Ok (value_of program))
+abbrev pub Loads : {S : Type 0} → (S → Option (List ℕ)) → (S → ℕ) → S → S → Input → Result Loaded LoadFault → Type 0
+Loads left faults old new input (Ok loaded) = ReadsMeaning left faults old new input (Ok (value_of loaded))
 Loads left faults old new input (Err (loads.Refused refusal)) = ReadsMeaning left faults old new input (Err refusal)
 Loads left faults old new input (Err loads.Read) = Rose (faults old) (faults new)
 Loads left faults old new input (Err loads.Memory) = faults new ≡ faults old

@@ -1,3 +1,3 @@
-pub mod Program
+pub mod Loaded
 pub mod Words
 pub mod Input

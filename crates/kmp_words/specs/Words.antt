@@ -25,6 +25,8 @@ use Rattle.kmp_words.specs.declared.options.Command.TheVariants as commands
 use Rattle.kmp_words.specs.declared.options.OptionName.{OptionName}
 use Rattle.kmp_words.specs.declared.options.OptionName.TheVariants as names
 use Rattle.kmp_words.specs.declared.options.Options.{Options}
+use Rattle.kmp_words.specs.declared.program.Program.{Program}
+use Rattle.kmp_words.specs.declared.program.Program.TheVariants as programs
 use Rattle.kmp_words.specs.declared.fault.WordFault.{WordFault}
 use Rattle.kmp_words.specs.declared.fault.WordCause.{WordCause}
 use Rattle.kmp_words.specs.declared.fault.WordCause.TheVariants.{NoCommand, UnknownCommand, UnknownOption, OptionTwice, BadValue, Excluded}
@@ -33,19 +35,25 @@ use Rattle.kmp_words.specs.declared.fault.WordCause.TheVariants.{NoCommand, Unkn
 abbrev pub texts_of : List (Bor (List ℕ)) → List (List ℕ)
 texts_of words = map (λ (word : Bor (List ℕ)). word.now) words
 
-abbrev pub command_names : List (List ℕ × Command)
-command_names = (codes "run", commands.Run) ∷ (codes "asm", commands.Asm) ∷ (codes "replay", commands.Replay) ∷ []
+-- the commands of each program
+abbrev pub command_names : Program → List (List ℕ × Command)
+command_names programs.Kmp = (codes "run", commands.Run) ∷ (codes "asm", commands.Asm) ∷ (codes "replay", commands.Replay) ∷ []
+command_names programs.KmpMp = (codes "run", commands.RunOnThreads) ∷ []
 
--- the options of each command
-abbrev pub options_of : Command → List (List ℕ × OptionName)
-options_of commands.Run =
+-- the options of a run whose cores are on threads
+abbrev pub threads_options : List (List ℕ × OptionName)
+threads_options =
     (codes "--machine", names.Machine)
     ∷ (codes "--cores", names.Cores)
     ∷ (codes "--budget", names.Budget)
-    ∷ (codes "--turns", names.Turns)
     ∷ (codes "--memory", names.Memory)
     ∷ (codes "--image", names.Image)
     ∷ []
+
+-- the options of each command
+abbrev pub options_of : Command → List (List ℕ × OptionName)
+options_of commands.Run = (codes "--turns", names.Turns) ∷ threads_options
+options_of commands.RunOnThreads = threads_options
 options_of commands.Asm = (codes "--memory", names.Memory) ∷ []
 options_of commands.Replay = []
 
@@ -153,10 +161,14 @@ setup_of options = record {
 abbrev pub memory_lines : Options → ℕ
 memory_lines options = option_map_or (λ memory. memory.0) options.memory 8192
 
+-- the input of a run
+abbrev pub input_of : Options → Input
+input_of options = if is_some options.image then inputs.Image else inputs.Source (memory_lines options)
+
 -- what a command with its options asks for
 abbrev pub order_of : Command → Options → Order
-order_of commands.Run options =
-    orders.Run (setup_of options) (if is_some options.image then inputs.Image else inputs.Source (memory_lines options))
+order_of commands.Run options = orders.Run (setup_of options) (input_of options)
+order_of commands.RunOnThreads options = orders.Run (record (setup_of options) { turns = turns.Threads }) (input_of options)
 order_of commands.Asm options = orders.Asm (memory_lines options)
 order_of commands.Replay options = orders.Replay
 
@@ -167,11 +179,11 @@ together options = elim (excluded_at options) [
   | Some word ↦ Err (at_word Excluded word)
 ]
 
--- What the words ask for, or their first fault with the number of its word, counted from 1.
-unfoldable pub words_meaning : List (List ℕ) → Result Order WordFault
-words_meaning [] = Err (at_word NoCommand 1)
-words_meaning (first ∷ texts) = do
-  command ← ok_or (named command_names first) (at_word UnknownCommand 1)
+-- What the words of a program ask for, or their first fault with the number of its word, counted from 1.
+unfoldable pub words_meaning : Program → List (List ℕ) → Result Order WordFault
+words_meaning program [] = Err (at_word (NoCommand program) 1)
+words_meaning program (first ∷ texts) = do
+  command ← ok_or (named (command_names program) first) (at_word (UnknownCommand program) 1)
   options ← options_from command 2 no_options texts
   allowed ← together options
   Ok (order_of command allowed)
@@ -181,14 +193,20 @@ abbrev pub IsProperInput : Input → Type 0
 IsProperInput (inputs.Source memory_lines) = (2 ≤ memory_lines) × (memory_lines ≤ 2097152)
 IsProperInput inputs.Image = Unit {0}
 
--- What a run can be asked for by now: unpipelined cores in turns.
-pub record IsRunnableSetup (setup : Setup) : Type 0 where
+-- how the cores of a program's runs have their cycles
+abbrev pub turns_of : Program → Turns
+turns_of programs.Kmp = turns.Round
+turns_of programs.KmpMp = turns.Threads
+
+-- What a run of a program can be asked for by now: unpipelined cores.
+pub record IsRunnableSetup (program : Program) (setup : Setup) : Type 0 where
   pub limits : IsWithinLimits setup
   pub plain : setup.machine ≡ machines.Plain
-  pub round : setup.turns ≡ turns.Round
+  pub turns : setup.turns ≡ turns_of program
 
--- an order that can be carried out
-abbrev pub IsRunnable : Order → Type 0
-IsRunnable (orders.Run setup input) = IsRunnableSetup setup × IsProperInput input
-IsRunnable (orders.Asm memory_lines) = IsProperInput (inputs.Source memory_lines)
-IsRunnable orders.Replay = Unit {0}
+-- an order that the program can carry out
+abbrev pub IsRunnable : Program → Order → Type 0
+IsRunnable program (orders.Run setup input) = IsRunnableSetup program setup × IsProperInput input
+IsRunnable programs.Kmp (orders.Asm memory_lines) = IsProperInput (inputs.Source memory_lines)
+IsRunnable programs.Kmp orders.Replay = Unit {0}
+IsRunnable programs.KmpMp other = ⊥

@@ -1,13 +1,16 @@
 //! What is wrong with the words of the command line.
 use crate::input::Refusal;
+use crate::program::Program;
 use std::error::Error;
 use std::fmt::{self, Display, Formatter, Write};
 
 /// What is wrong with a word.
 #[derive(Clone, Copy, Debug)]
 pub enum WordCause {
-    NoCommand,
-    UnknownCommand,
+    /// There is no word, where a command of the program is due.
+    NoCommand(Program),
+    /// The word is no command of the program.
+    UnknownCommand(Program),
     UnknownOption,
     OptionTwice,
     BadValue,
@@ -18,8 +21,12 @@ impl WordCause {
     /// What is wrong, and what to do.
     fn text(self) -> &'static str {
         match self {
-            WordCause::NoCommand => "there is no command; write run, asm or replay",
-            WordCause::UnknownCommand => "there is no such command; write run, asm or replay",
+            WordCause::NoCommand(Program::Kmp) => "there is no command; write run, asm or replay",
+            WordCause::NoCommand(Program::KmpMp) => "there is no command; write run",
+            WordCause::UnknownCommand(Program::Kmp) => {
+                "there is no such command; write run, asm or replay"
+            }
+            WordCause::UnknownCommand(Program::KmpMp) => "there is no such command; write run",
             WordCause::UnknownOption => {
                 "the command has no option of this name; --help alone lists them"
             }

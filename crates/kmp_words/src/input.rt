@@ -1,7 +1,7 @@
 //! The program that is read from an input.
 ghost use Rattle.std.specs.Prelude.{◌≡◌, ◌≤◌, length};
 ghost use Rattle.kmp_words.specs.Words.{IsProperInput};
-ghost use Rattle.kmp_words.specs.Input.{limit_of, program_from, of_source, of_image, meaning_of, Gives, Loads};
+ghost use Rattle.kmp_words.specs.Input.{limit_of, loaded_from, of_source, of_image, meaning_of, Gives, Loads};
 ghost use Rattle.kmp_words.specs.declared.input.LoadFault.TheVariants.{Memory};
 
 use asm_layout::split_lines;
@@ -28,7 +28,7 @@ pub enum Input {
 
 /// A program as it is loaded.
 #[derive(Drop)]
-pub struct Program {
+pub struct Loaded {
     pub image: Image,
     /// The lines of its source with an `li` or `la` of which only the first word stands in a delay slot, as
     /// [`split_lines`] tells them. An image has none.
@@ -98,24 +98,24 @@ impl Input {
 }
 
 /// The program that a source means.
-fn assembled(alloc: Global, text: &[u8], memory_lines: u32) -> Result<Program, LoadFault>
+fn assembled(alloc: Global, text: &[u8], memory_lines: u32) -> Result<Loaded, LoadFault>
     requires proper { IsProperInput (Input.Source memory_lines) }
     requires size { length text.now ≤ limit_of (Input.Source memory_lines) }
-    ensures meaning { Gives (program_from (Input.Source memory_lines) text.now) result }
+    ensures meaning { Gives (loaded_from (Input.Source memory_lines) text.now) result }
 {
     let statements = parse(alloc, text)?;
     let image = assemble(alloc, &statements, memory_lines)?;
     let split = split_lines(alloc, &statements)?;
-    Ok(Program { image, split })
+    Ok(Loaded { image, split })
 }
 
 /// The image that bytes are.
-fn spelled(alloc: Global, bytes: &[u8]) -> Result<Program, LoadFault>
+fn spelled(alloc: Global, bytes: &[u8]) -> Result<Loaded, LoadFault>
     requires size { length bytes.now ≤ limit_of Input.Image }
-    ensures meaning { Gives (program_from Input.Image bytes.now) result }
+    ensures meaning { Gives (loaded_from Input.Image bytes.now) result }
 {
     let image = read_image(alloc, bytes)?;
-    Ok(Program {
+    Ok(Loaded {
         image,
         split: Vec::new(alloc),
     })
@@ -123,7 +123,7 @@ fn spelled(alloc: Global, bytes: &[u8]) -> Result<Program, LoadFault>
 
 /// The program that bytes mean.
 #[tactic(auto, unfolding(crate::specs::Input::meaning_of))]
-fn program_from(alloc: Global, input: Input, bytes: &[u8]) -> Result<Program, LoadFault>
+fn loaded_from(alloc: Global, input: Input, bytes: &[u8]) -> Result<Loaded, LoadFault>
     requires proper { IsProperInput input }
     requires size { length bytes.now ≤ limit_of input }
     ensures meaning { Gives (meaning_of input bytes.now) result }
@@ -137,12 +137,12 @@ fn program_from(alloc: Global, input: Input, bytes: &[u8]) -> Result<Program, Lo
 /// Reads an input to its end, and gives the program that it means.
 ///
 /// A source has at most [`SOURCE_LIMIT`] bytes, an image [`IMAGE_LIMIT`]; of a longer input one byte more is read.
-pub fn load<S: Source>(alloc: Global, source: &mut S, input: Input) -> Result<Program, LoadFault>
+pub fn load<S: Source>(alloc: Global, source: &mut S, input: Input) -> Result<Loaded, LoadFault>
     requires proper { IsProperInput input }
     ensures loads { Loads S.left S.faults source.old source.new input result }
 {
     match read_input(alloc, source, input.limit()) {
-        Ok(bytes) => program_from(alloc, input, &bytes),
+        Ok(bytes) => loaded_from(alloc, input, &bytes),
         Err(InputFault::TooLong) => Err(LoadFault::Refused(Refusal::TooLong(input.limit()))),
         Err(InputFault::Failed) => Err(LoadFault::Read),
         Err(InputFault::Memory) => Err(LoadFault::Memory),

@@ -5,9 +5,11 @@ mod fault;
 mod input;
 mod options;
 mod order;
+mod program;
 mod words;
 
 pub use fault::{WordCause, WordFault};
-pub use input::{IMAGE_LIMIT, Input, LoadFault, Program, Refusal, SOURCE_LIMIT, load};
+pub use input::{IMAGE_LIMIT, Input, LoadFault, Loaded, Refusal, SOURCE_LIMIT, load};
 pub use order::Order;
+pub use program::Program;
 pub use words::read_words;

@@ -3,11 +3,15 @@ ghost use Rattle.std.specs.Prelude.{◌≡◌, option_and_then, option_copied};
 ghost use Rattle.kmp_base.specs.Names.{named};
 ghost use Rattle.kmp_words.specs.Words.{command_names, options_of, number_in, lines_of, number_within, machine_names, turns_names, stands_in, with_option, excluded_at, memory_lines, setup_of};
 
+use crate::program::Program;
 use kmp_base::{MOST_BUDGET, MOST_CORES, MachineKind, Policy, Setup, Turns, decimal_of, named};
 
 #[derive(Clone, Copy)]
 pub enum Command {
+    /// A run whose cores take turns.
     Run,
+    /// A run whose cores are on threads of their own.
+    RunOnThreads,
     Asm,
     Replay,
 }
@@ -45,14 +49,13 @@ pub struct Options {
 const MEMORY_LINES: u32 = 8192;
 
 impl Command {
-    pub fn named(name: &str) -> Option<Command>
-        ensures value { result ≡ named command_names name.now }
+    /// The command of a program that has a name.
+    pub fn named(program: Program, name: &str) -> Option<Command>
+        ensures value { result ≡ named (command_names program) name.now }
     {
-        match name {
-            "run" => Some(Command::Run),
-            "asm" => Some(Command::Asm),
-            "replay" => Some(Command::Replay),
-            _ => None,
+        match program {
+            Program::Kmp => kmp_command(name),
+            Program::KmpMp => kmp_mp_command(name),
         }
     }
 
@@ -62,9 +65,30 @@ impl Command {
     {
         match self {
             Command::Run => run_option(name),
+            Command::RunOnThreads => threads_option(name),
             Command::Asm => asm_option(name),
             Command::Replay => None,
         }
+    }
+}
+
+fn kmp_command(name: &str) -> Option<Command>
+    ensures value { result ≡ named (command_names Program.Kmp) name.now }
+{
+    match name {
+        "run" => Some(Command::Run),
+        "asm" => Some(Command::Asm),
+        "replay" => Some(Command::Replay),
+        _ => None,
+    }
+}
+
+fn kmp_mp_command(name: &str) -> Option<Command>
+    ensures value { result ≡ named (command_names Program.KmpMp) name.now }
+{
+    match name {
+        "run" => Some(Command::RunOnThreads),
+        _ => None,
     }
 }
 
@@ -72,10 +96,18 @@ fn run_option(name: &str) -> Option<OptionName>
     ensures value { result ≡ named (options_of Command.Run) name.now }
 {
     match name {
+        "--turns" => Some(OptionName::Turns),
+        _ => threads_option(name),
+    }
+}
+
+fn threads_option(name: &str) -> Option<OptionName>
+    ensures value { result ≡ named (options_of Command.RunOnThreads) name.now }
+{
+    match name {
         "--machine" => Some(OptionName::Machine),
         "--cores" => Some(OptionName::Cores),
         "--budget" => Some(OptionName::Budget),
-        "--turns" => Some(OptionName::Turns),
         "--memory" => Some(OptionName::Memory),
         "--image" => Some(OptionName::Image),
         _ => None,

@@ -6,6 +6,8 @@ use crate::fault::{WordCause, WordFault};
 use crate::input::Input;
 use crate::options::{Command, Options};
 use crate::order::Order;
+use crate::program::Program;
+use kmp_base::{Setup, Turns};
 
 /// What stands before the first `=`, and what stands behind it, where there is one.
 fn split(word: &str) -> (&str, Option<&str>)
@@ -59,10 +61,18 @@ fn order_of(command: Command, options: Options) -> Order
     ensures value { result ≡ order_of command options }
 {
     let source = Input::Source(options.memory_lines());
+    let input = options.image.map_or(source, |_| Input::Image);
     match command {
         Command::Run => Order::Run {
             setup: options.setup(),
-            input: options.image.map_or(source, |_| Input::Image),
+            input,
+        },
+        Command::RunOnThreads => Order::Run {
+            setup: Setup {
+                turns: Turns::Threads,
+                ..options.setup()
+            },
+            input,
         },
         Command::Asm => Order::Asm {
             memory_lines: options.memory_lines(),
@@ -71,23 +81,23 @@ fn order_of(command: Command, options: Options) -> Order
     }
 }
 
-/// What the words behind the program's name ask for.
+/// What the words behind a program's name ask for.
 ///
-/// The first word is the command, `run`, `asm` or `replay`. Each later one is an option, which may stand once; `replay`
-/// has none. `--memory=N` is for the other two: N bytes of memory, a multiple of 8 from 16 to 16,777,216, and 65,536
-/// where it doesn't stand. The others are for `run`: `--cores=N`, from 1 to 8, and 1 where it doesn't stand;
-/// `--budget=N`, cycles for each core from 1 to 100,000, and 20,000 where it doesn't stand; `--machine=plain`;
-/// `--turns=round`; and `--image`, where it reads an image. The first fault from the left answers, and behind them that
-/// `--memory` and `--image` exclude each other.
+/// The first word is the command: `run`, and for `kmp` also `asm` and `replay`. Each later one is an option, which may
+/// stand once; `replay` has none. `--memory=N` is for the other two: N bytes of memory, a multiple of 8 from 16 to
+/// 16,777,216, and 65,536 where it doesn't stand. The others are for `run`: `--cores=N`, from 1 to 8, and 1 where it
+/// doesn't stand; `--budget=N`, cycles for each core from 1 to 100,000, and 20,000 where it doesn't stand;
+/// `--machine=plain`; for `kmp` `--turns=round`; and `--image`, where it reads an image. The first fault from the left
+/// answers, and behind them that `--memory` and `--image` exclude each other.
 #[tactic(auto, unfolding(crate::specs::Words::words_meaning))]
-pub fn read_words(words: &[&str]) -> Result<Order, WordFault>
-    ensures meaning { result ≡ words_meaning (texts_of words.now) }
-    ensures runnable { IfOk result (λ order. IsRunnable order) }
+pub fn read_words(words: &[&str], program: Program) -> Result<Order, WordFault>
+    ensures meaning { result ≡ words_meaning program (texts_of words.now) }
+    ensures runnable { IfOk result (λ order. IsRunnable program order) }
 {
     let [first, texts @ ..] = words else {
-        return Err(WordCause::NoCommand.at(1));
+        return Err(WordCause::NoCommand(program).at(1));
     };
-    let command = Command::named(first).ok_or(WordCause::UnknownCommand.at(1))?;
+    let command = Command::named(program, first).ok_or(WordCause::UnknownCommand(program).at(1))?;
     let options = options_in(command, texts)?;
     match options.excluded_at() {
         Some(word) => Err(WordCause::Excluded.at(word)),

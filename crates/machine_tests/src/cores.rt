@@ -14,7 +14,7 @@ use timetable::{CoreEnd, End, Outcome};
 
 /// An image of `sll $t0,$a0,2`, `sw $a1,0x100($t0)` and `halt`: each core stores the number of cores
 /// in a word of its own.
-const OWN_WORDS: [u8; 32] =
+pub const OWN_WORDS: [u8; 32] =
     *b"KMP1\x00\x20\x00\x00\x04\x00\x00\x00\x00\x00\x00\x00\x80\x40\x04\x00\x00\x01\x05\xad\x0d\x00\x00\x00\x00\x00\x00\x00";
 
 fn run(alloc: Global, image: &Image, cores: u32, budget: u32) -> Result<Outcome, Fail>

@@ -1,6 +1,7 @@
 //! Tests of what no call of the program reaches, in the crates of the machine.
 #![tactic(auto)]
 
+mod answers;
 #[cfg(test)]
 mod cores;
 #[cfg(test)]
@@ -13,5 +14,7 @@ mod histories;
 mod images;
 #[cfg(test)]
 mod memories;
+#[cfg(test)]
+mod threads;
 #[cfg(test)]
 mod turns;

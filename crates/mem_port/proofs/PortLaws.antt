@@ -11,7 +11,9 @@ use Rattle.access_log.specs.declared.Item.{Item}
 use Rattle.access_log.proofs.RequestLaws.{core_of-entry}
 use Rattle.mem_port.specs.declared.port.Port.{Port}
 use Rattle.mem_port.specs.declared.port.Port.TheVariants.{Fetch, Access}
-use Rattle.mem_port.specs.Ports.{core_of, but_last, items_of}
+use Rattle.mem_port.specs.declared.port.PortState.{PortState}
+use Rattle.mem_port.specs.declared.port.PortState.TheVariants.{Free, Asked, Waiting, Answered, Closed}
+use Rattle.mem_port.specs.Ports.{core_of, IsAtRest, but_last, taken_of, items_of}
 use Rattle.mem_port.specs.Memory.{bus_items}
 
 -- Two ports are one, or they aren't.
@@ -30,6 +32,14 @@ pub but_last-append : (entries : List Entry) (entry : Entry) → but_last (entri
 but_last-append [] entry = refl
 but_last-append (x ∷ []) entry = refl
 but_last-append (x ∷ y ∷ ys) entry = ap (λ t. x ∷ t) (but_last-append (y ∷ ys) entry)
+
+-- Where there is no request, a core has taken all its entries.
+pub rest-taken : (port : PortState) (own : List Entry) → IsAtRest port → taken_of port own ≡ own
+rest-taken Free own h = refl
+rest-taken (Asked r) own h = absurd h
+rest-taken (Waiting r) own h = absurd h
+rest-taken (Answered r word) own h = absurd h
+rest-taken Closed own h = refl
 
 own-items_other : (p : Port) (r : Request) (word core : ℕ) → core ≢ core_of p → own_items (items_of p r word) core ≡ []
 own-items_other (Fetch c) r word core h = refl

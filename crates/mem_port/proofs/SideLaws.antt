@@ -1,9 +1,8 @@
 -- A caller that has a memory for itself keeps the law of a core's side: what each call leaves of the other cores, what it
 -- means to its own, and who pays for its steps.
-use Rattle.std.proofs.Common.{◌≡◌, ◌≢◌, ℕ, ◌+◌, ◌-◌, ◌*◌, ◌≤◌, inl, inr, Bool, false, IsTrue, Option, Some, None, List, [], ◌++◌}
-use Rattle.std.proofs.Common.{append_assoc, append-nil, refl, ap, sym, ◌∙◌, subst, arith, add-zero}
+use Rattle.std.proofs.Common.{◌≡◌, ◌≢◌, ℕ, ◌+◌, ◌-◌, ◌*◌, ◌≤◌, inl, inr, false, IsTrue, Option, Some, None, List, [], ◌++◌}
+use Rattle.std.proofs.Common.{append_assoc, append-nil, refl, ap, sym, ◌∙◌, subst, arith, add-zero, rules}
 use Rattle.std.proofs.lemmas.Bool.{cases_eq}
-use Rattle.std.proofs.Math.Path.{subst⁻¹}
 use Rattle.std.proofs.Math.Nat.{le_trans, le_of_suc-le}
 use Rattle.std.proofs.Math.Numerals.{add-one}
 use Rattle.access_log.specs.Items.{own_items}
@@ -20,16 +19,16 @@ use Rattle.mem_port.specs.declared.port.Withdrawal.{Withdrawal}
 use Rattle.mem_port.specs.declared.port.Withdrawal.TheVariants as withdrawal
 use Rattle.mem_port.specs.declared.port.PortState.{PortState}
 use Rattle.mem_port.specs.declared.port.PortState.TheVariants.{Free, Asked, Waiting, Answered, Closed}
-use Rattle.mem_port.specs.Ports.{core_of, IsWaiting, but_last, taken_of, items_of}
+use Rattle.mem_port.specs.Ports.{core_of, IsWaiting, IsServed, IsOpen, IsUnanswered, IsAtRest, but_last, taken_of, items_of}
 use Rattle.mem_port.specs.Memory.{MemoryView, IsLawful, Keeps, LeavesPorts, Asks, Serves, Answers, Moves, Same, Steps, Leaves, Takes}
 use Rattle.mem_port.specs.Memory.{Withdraws, steps_of_request, committed, bus_items}
-use Rattle.mem_port.specs.Side.{port_phase, Evolves, KeepsSide, LeavesPort, SideServes, SideStays, SideSteps, LeavesOthers, Paid, potential}
-use Rattle.mem_port.specs.Side.{remaining_wait_of, side_of}
+use Rattle.mem_port.specs.Side.{Served, Holds, port_phase, Evolves, KeepsSide, LeavesPort, SideAsks, SideServes, SideStays, SideSteps}
+use Rattle.mem_port.specs.Side.{SideTakes, SideWithdraws, LeavesOthers, Paid, potential, remaining_wait_of, side_of}
 use Rattle.mem_port.proofs.PortLaws.{cases_port, but_last-append, own-answered_other, own-answered_same, own-bus_after}
 
 -- Facts that go along an equation.
 
-waiting_along : {a b : PortState} → b ≡ a → IsWaiting b → IsWaiting a
+pub waiting_along : {a b : PortState} → b ≡ a → IsWaiting b → IsWaiting a
 waiting_along e h = let P : PortState → Type 0 = λ x. IsWaiting x in subst P e h
 
 not_waiting : {s : PortState} {r : Request} {word : ℕ} → s ≡ Answered r word → IsWaiting s → ⊥
@@ -49,9 +48,41 @@ pub port_phase-evolves : (a b : PortState) → Evolves a b → port_phase b ≡ 
 port_phase-evolves a b (inl e) = ap port_phase e
 port_phase-evolves a b (inr s) = ap port_phase s.1.1.1 ∙ sym (ap port_phase s.1.1.0)
 
-still_waiting : {a b : PortState} → Evolves a b → IsWaiting b → IsWaiting a
+-- A phase tells of its port whether it was served, and whether there is a request. What was served waits or is answered.
+
+pub port_phase-served : (a : PortState) (r : Request) → port_phase a ≡ Served r → IsServed a
+port_phase-served Free r e = cc
+port_phase-served (Asked q) r e = cc
+port_phase-served (Waiting q) r e = tt
+port_phase-served (Answered q word) r e = tt
+port_phase-served Closed r e = cc
+
+pub port_phase-open : (a : PortState) (r : Request) → Holds (port_phase a) r → IsOpen a
+port_phase-open Free r h = absurd h
+port_phase-open (Asked q) r h = tt
+port_phase-open (Waiting q) r h = tt
+port_phase-open (Answered q word) r h = tt
+port_phase-open Closed r h = absurd h
+
+pub port_phase-answered : (a : PortState) (r : Request) → port_phase a ≡ Served r → (IsWaiting a → ⊥) → (word : ℕ) × (a ≡ Answered r word)
+port_phase-answered Free r e not = cc
+port_phase-answered (Asked q) r e not = cc
+port_phase-answered (Waiting q) r e not = absurd (not tt)
+port_phase-answered (Answered q word) r e not = let same : q ≡ r = cc in (word, ap (λ s. Answered s word) same)
+port_phase-answered Closed r e not = cc
+
+-- A port that waits or has no answer did so before; one at rest stays as it was.
+pub still_waiting : {a b : PortState} → Evolves a b → IsWaiting b → IsWaiting a
 still_waiting {a} {b} (inl e) h = waiting_along e h
 still_waiting {a} {b} (inr s) h = absurd (not_waiting s.1.1.1 h)
+
+pub still_unanswered : {a b : PortState} → Evolves a b → IsUnanswered b → IsUnanswered a
+still_unanswered {a} {b} (inl e) h = let P : PortState → Type 0 = λ x. IsUnanswered x in subst P e h
+still_unanswered {a} {b} (inr s) h = let P : PortState → Type 0 = λ x. IsUnanswered x in absurd (subst P s.1.1.1 h)
+
+pub rest-evolves : {a b : PortState} → Evolves a b → IsAtRest a → b ≡ a
+rest-evolves {a} {b} (inl e) h = e
+rest-evolves {a} {b} (inr s) h = let P : PortState → Type 0 = λ x. IsAtRest x in absurd (subst P s.1.1.0 h)
 
 -- A port that is as one was that is as another was is as that was.
 pub evolves-twice : {a b d : PortState} → Evolves a b → Evolves b d → Evolves a d
@@ -95,9 +126,9 @@ goes_on-view core a b d h k = record {
   ports = λ q ne. evolves-twice (h.ports q ne) (k.ports q ne);
   asks = λ q ne. k.asks q ne ∙ h.asks q ne;
   taken = λ n ne. k.taken n ne ∙ h.taken n ne;
-  distances = λ t q ne w. le_trans (k.distances (subst⁻¹ (λ (told : Bool). IsTrue told) h.kept.tells_distances t) q ne w)
+  distances = λ t q ne w. le_trans (k.distances (h.kept.tells_distances ∙ t) q ne w)
       (h.distances t q ne (still_waiting (k.ports q ne) w));
-  load = λ t. le_trans (k.load (subst⁻¹ (λ (told : Bool). IsTrue told) h.kept.tells_load t)) (h.load t);
+  load = λ t. le_trans (k.load (h.kept.tells_load ∙ t)) (h.load t);
 }
 
 -- Potential.
@@ -216,6 +247,12 @@ moves-port old new h q =
       | inr o ↦ answers-port o.0 o.1.0 o.1.1.0 o.1.1.1.0 old new o.1.1.1.1 q
     ]
 
+-- A port that waits behind a step waited before it.
+pub steps-waited : (result : Moved) (old new : MemoryView) → Steps result old new → (q : Port) → IsWaiting (new.port q)
+    → IsWaiting (old.port q)
+steps-waited moved.Moved old new h q w = still_waiting (moves-port old new h q) w
+steps-waited moved.Idle old new h q w = waiting_along (h.1.ports q) w
+
 -- An entry that was just made is not taken yet.
 answered-committed : (core : ℕ) (r : Request) (word : ℕ) (bus : Option Transaction) (old new : MemoryView)
     → Answers (Access core) r word bus old new → committed new core ≡ committed old core
@@ -301,27 +338,40 @@ paid_in_turn a b d j k h i = omega arith
 pub paid-twice : (core j k : ℕ) (a b d : MemoryView) → Paid core j a b → Paid core k b d → Keeps a b → Paid core (j + k) a d
 paid-twice core j k a b d h i kept t =
     paid_in_turn (potential core a) (potential core b) (potential core d) j k (h t)
-    (i (subst⁻¹ (λ (told : Bool). IsTrue told) kept.tells_load t))
+    (i (kept.tells_load ∙ t))
 
 -- What a core's side sees of each call.
 
 side-kept : (core : ℕ) (old new : MemoryView) → Keeps old new → KeepsSide (side_of old core) (side_of new core)
 side-kept core old new k = record { image = k.image; cores = k.cores; tells_distances = k.tells_distances; bound = k.bound }
 
--- The remaining wait of a port that is as it was falls with its distance.
-remaining_wait_less : (a b : PortState) (d e : ℕ) → b ≡ a → (IsWaiting a → e ≤ d) → remaining_wait_of b e ≤ remaining_wait_of a d
-remaining_wait_less Free b d e eq h = rw eq (omega arith)
-remaining_wait_less (Asked r) b d e eq h = rw eq (omega arith)
-remaining_wait_less (Waiting r) b d e eq h = rw eq (h tt)
-remaining_wait_less (Answered r word) b d e eq h = rw eq (omega arith)
-remaining_wait_less Closed b d e eq h = rw eq (omega arith)
+-- A port's remaining wait falls with its distance, by as many steps, and is within it.
+
+pub remaining_wait-falls : (a b : PortState) (d e steps : ℕ) → Evolves a b → (IsWaiting b → e ≤ d - steps)
+    → remaining_wait_of b e ≤ remaining_wait_of a d - steps
+remaining_wait-falls a Free d e steps m h = omega arith
+remaining_wait-falls a (Asked r) d e steps m h = omega arith
+remaining_wait-falls a (Waiting r) d e steps (inl eq) h =
+    let P : PortState → Type 0 = λ s. e ≤ remaining_wait_of s d - steps in subst P eq (h tt)
+remaining_wait-falls a (Waiting r) d e steps (inr s) h = let eq = s.1.1.1 in cc
+remaining_wait-falls a (Answered r word) d e steps m h = omega arith
+remaining_wait-falls a Closed d e steps m h = omega arith
+
+pub remaining_wait-within : (s : PortState) (d : ℕ) → remaining_wait_of s d ≤ d
+remaining_wait-within Free d = omega arith
+remaining_wait-within (Asked r) d = omega arith
+remaining_wait-within (Waiting r) d = omega arith
+remaining_wait-within (Answered r word) d = omega arith
+remaining_wait-within Closed d = omega arith
 
 side-other : (p : Port) (old new : MemoryView) → LeavesPorts p old new → LeavesPort p (side_of old (core_of p)) (side_of new (core_of p))
 side-other p old new h = record {
   port = λ q ne c. inl (h.ports q ne);
   asks = λ q ne c. h.asks q ne;
-  remaining_wait = λ t q ne c. remaining_wait_less (old.port q) (new.port q) (old.distance q) (new.distance q) (h.ports q ne)
-      (λ w. h.distances t q ne w);
+  remaining_wait = λ t q ne c.
+      let falls = remaining_wait-falls (old.port q) (new.port q) (old.distance q) (new.distance q) 0 (inl (h.ports q ne))
+      (λ w. let near = h.distances t q ne (waiting_along (h.ports q ne) w) in omega (arith, near))
+      in omega (arith, falls);
 }
 
 -- A call on a port that makes no entry takes none, where its access port tells of no more than before.
@@ -345,14 +395,17 @@ taken-answered (Access c) r word old new was is h e =
 states-taken : {a b x y : PortState} (own : List Entry) → a ≡ x → b ≡ y → taken_of x own ≡ taken_of y own → taken_of a own ≡ taken_of b own
 states-taken own e f h = ap (λ s. taken_of s own) e ∙ (h ∙ sym (ap (λ s. taken_of s own) f))
 
+pub asks-side : (p : Port) (r : Request) (old new : MemoryView) → old.port p ≡ Free → Asks p r old new
+    → SideAsks p r (side_of old (core_of p)) (side_of new (core_of p))
+asks-side p r old new free h = search rules
+
 near-bound : (p : Port) (r : Request) (old new : MemoryView) → IsLawful new → Keeps old new → IsTrue old.tells_distances
     → new.port p ≡ Waiting r → remaining_wait_of (new.port p) (new.distance p) ≤ old.bound
 near-bound p r old new lawful kept t is =
-    let P : PortState → Type 0 = λ s. remaining_wait_of s (new.distance p) ≤ old.bound in
-    let Q : PortState → Type 0 = λ s. IsWaiting s in
-    let close = (lawful.near (subst⁻¹ (λ (told : Bool). IsTrue told) kept.tells_distances t) p (subst Q (sym is) tt)).1 in
+    let close = (lawful.near (kept.tells_distances ∙ t) p (waiting_along {b = Waiting r} (sym is) tt)).1 in
     let e = kept.bound in
-    subst P (sym is) (omega (arith, close, e))
+    let within = remaining_wait-within (new.port p) (new.distance p) in
+    omega (arith, close, e, within)
 
 pub serves-side : (p : Port) (r : Request) (old new : MemoryView) → IsLawful new → old.port p ≡ Asked r → Serves p r old new
     → SideServes p r (side_of old (core_of p)) (side_of new (core_of p))
@@ -376,17 +429,6 @@ serves-side p r old new lawful was h =
             λ s. remaining_wait_of s (new.distance p) ≤ old.bound in subst P (sym o.1) (omega arith);
       }
     ]
-
--- A step lowers each remaining wait by one.
-remaining_wait-stepped : (a b : PortState) (d e : ℕ) → Evolves a b → (IsWaiting b → e + 1 ≤ d)
-    → remaining_wait_of b e ≤ remaining_wait_of a d - 1
-remaining_wait-stepped a Free d e m h = omega arith
-remaining_wait-stepped a (Asked r) d e m h = omega arith
-remaining_wait-stepped a (Waiting r) d e (inl eq) h =
-    let P : PortState → Type 0 = λ s. e ≤ remaining_wait_of s d - 1 in subst P eq (let k = h tt in omega (arith, k))
-remaining_wait-stepped a (Waiting r) d e (inr s) h = let eq = s.1.1.1 in cc
-remaining_wait-stepped a (Answered r word) d e m h = omega arith
-remaining_wait-stepped a Closed d e m h = omega arith
 
 -- What doesn't wait has no remaining wait.
 remaining_wait-rests : (s : PortState) (e : ℕ) → (IsWaiting s → ⊥) → remaining_wait_of s e ≡ 0
@@ -417,11 +459,21 @@ steps-side moved.Moved core old new lawful h = record {
     taken = moves-committed old new h core;
   };
   idle = λ e q c w. cc;
-  remaining_wait = λ t q c. remaining_wait-stepped (old.port q) (new.port q) (old.distance q) (new.distance q) (moves-port old new h q)
-      (λ w. h.distances t q w);
+  remaining_wait = λ t q c. remaining_wait-falls (old.port q) (new.port q) (old.distance q) (new.distance q) 1 (moves-port old new h q)
+      (λ w. let nearer = h.distances t q w in omega (arith, nearer));
 }
 steps-side moved.Idle core old new lawful h = record {
   stays = same-stays core old new h.1;
   idle = λ e q c w. idle-rests old new lawful h.0 h.1 q w;
   remaining_wait = λ t q c. rw (remaining_wait-rests (new.port q) (new.distance q) (idle-rests old new lawful h.0 h.1 q)) (omega arith);
 }
+
+pub takes-side : (result : Option ℕ) (p : Port) (r : Request) (old new : MemoryView) → IsLawful old → port_phase (old.port p) ≡ Served r
+    → Takes result p old new
+    → SideTakes result p r (side_of old (core_of p)) (side_of new (core_of p))
+takes-side result p r old new lawful is h = search rules
+
+pub withdraws-side : (result : Withdrawal) (p : Port) (r : Request) (old new : MemoryView) → IsLawful old
+    → Holds (port_phase (old.port p)) r → Withdraws result p old new
+    → SideWithdraws result p r (side_of old (core_of p)) (side_of new (core_of p))
+withdraws-side result p r old new lawful is h = search rules

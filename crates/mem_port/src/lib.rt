@@ -8,7 +8,8 @@
 //!
 //! - `proofs/LoadedLaws`: what a core does next, as a stop, a request or a quiet step.
 //! - `proofs/PortLaws`: ports, and what an answer adds to the entries of each core.
-//! - `proofs/SideLaws`: what calls for one core leave of the others, and what they mean to itself.
+//! - `proofs/SideLaws`: ports that may have been answered meanwhile; what calls for one core leave of the
+//!   others, and what they mean to itself.
 //! - `proofs/CellLaws`: what a change of one cell leaves of all ports.
 //! - `proofs/ChangeLaws`: a memory in which one port changes keeps the law.
 #![tactic(auto)]

@@ -1,13 +1,12 @@
 -- The first difference of lists of judgments: of one behind another, and of one from an index on.
-use Rattle.std.proofs.Common.{◌≡◌, ℕ, ◌+◌, ◌/◌, ◌<◌, Bool, true, false, cond, List, [], ◌∷◌, ◌++◌, get_or, drop, map, Option, Some, None}
+use Rattle.std.proofs.Common.{◌≡◌, ℕ, ◌+◌, ◌/◌, ◌<◌, ◌≤◌, Bool, true, false, cond, List, [], ◌∷◌, ◌++◌, drop, map, Option, Some, None}
 use Rattle.std.proofs.Common.{refl, sym, ap, ◌∙◌, arith}
 use Rattle.std.specs.List.{range_with_len, slice_index}
-use Rattle.std.proofs.lemmas.Bool.{eq-eqb, ne_eqb}
-use Rattle.std.proofs.lemmas.List.{at_drop_more}
+use Rattle.std.proofs.lemmas.List.{at_drop_more, drop_all}
 use Rattle.std.proofs.lemmas.List.FromFn.{get_or-map-range_with_len, length-map-range_with_len}
 use Rattle.access_log.specs.declared.field.Field.TheVariants as fields
 use Rattle.replayer.specs.declared.Difference.{Difference}
-use Rattle.replayer.specs.Judgments.{Judgment, told, number, word, first_told, counts_judged, registers_judged}
+use Rattle.replayer.specs.Judgments.{Judgment, told, number, word, first_told}
 
 abbrev step : Judgment → List Judgment → Bool → Option Difference
 step judgment more same = cond same (first_told more) (Some (told judgment))
@@ -32,7 +31,8 @@ pub first_before : (a b : List Judgment) (difference : Difference) → first_tol
 first_before [] b difference e = absurd cc
 first_before (j ∷ a) b difference e = before j a b difference j.same refl e (first_before a b difference)
 
--- one judgment for each number below n
+-- ---- one judgment for each number below n
+
 abbrev pub each_judged : (ℕ → Judgment) → ℕ → List Judgment
 each_judged judged n = map judged (range_with_len 0 n)
 
@@ -43,55 +43,30 @@ each_at judged n i below =
     ∙ ap (λ (j : Judgment). step j (drop (i + 1) (each_judged judged n)) j.same)
     (get_or-map-range_with_len judged 0 n i i (judged i) below (omega arith))
 
--- a value that is as due is passed over
-pub each_same : (judged : ℕ → Judgment) (n i : ℕ) → i < n → (judged i).same ≡ true
-    → first_told (drop (i + 1) (each_judged judged n)) ≡ first_told (drop i (each_judged judged n))
-each_same judged n i below same =
-    sym (each_at judged n i below ∙ ap (step (judged i) (drop (i + 1) (each_judged judged n))) same)
+-- those below an index are as due
+abbrev pub AreSame : (ℕ → Judgment) → ℕ → ℕ → Type 0
+AreSame judged n i = first_told (drop i (each_judged judged n)) ≡ first_told (each_judged judged n)
 
--- a value that isn't is the first
-pub each_differs : (judged : ℕ → Judgment) (n i : ℕ) → i < n → (judged i).same ≡ false
-    → first_told (drop i (each_judged judged n)) ≡ Some (told (judged i))
-each_differs judged n i below differs =
-    each_at judged n i below ∙ ap (step (judged i) (drop (i + 1) (each_judged judged n))) differs
+-- and so is the one there
+pub each_same : (judged : ℕ → Judgment) (n i : ℕ) → i < n → (judged i).same ≡ true → AreSame judged n i → AreSame judged n (i + 1)
+each_same judged n i below same so_far =
+    sym (each_at judged n i below ∙ ap (step (judged i) (drop (i + 1) (each_judged judged n))) same) ∙ so_far
 
--- ---- numbers, one in a row
+-- or it is the first that isn't
+pub each_differs : (judged : ℕ → Judgment) (n i : ℕ) → i < n → (judged i).same ≡ false → AreSame judged n i
+    → Some (told (judged i)) ≡ first_told (each_judged judged n)
+each_differs judged n i below differs so_far =
+    sym (each_at judged n i below ∙ ap (step (judged i) (drop (i + 1) (each_judged judged n))) differs) ∙ so_far
 
-abbrev count_at : ℕ → List ℕ → List ℕ → ℕ → Judgment
+-- or there is none
+pub each_done : (judged : ℕ → Judgment) (n i : ℕ) → n ≤ i → AreSame judged n i → None ≡ first_told (each_judged judged n)
+each_done judged n i done so_far =
+    sym (ap first_told (drop_all i (each_judged judged n) (omega (arith, length-map-range_with_len judged 0 n)))) ∙ so_far
+
+-- numbers, one in a row
+abbrev pub count_at : ℕ → List ℕ → List ℕ → ℕ → Judgment
 count_at line kept due i = number (line + i) fields.Count (slice_index kept i) (slice_index due i)
 
-pub counts_passed : (line : ℕ) (kept due : List ℕ) (i : ℕ) → i < 13 → get_or kept i 0 ≡ get_or due i 0
-    → first_told (drop i (counts_judged line kept due)) ≡ first_told (counts_judged line kept due)
-    → first_told (drop (i + 1) (counts_judged line kept due)) ≡ first_told (counts_judged line kept due)
-counts_passed line kept due i below same so_far = each_same (count_at line kept due) 13 i below (eq-eqb _ _ same) ∙ so_far
-
-pub counts_differ : (line : ℕ) (kept due : List ℕ) (i : ℕ) → i < 13 → (get_or kept i 0 ≡ get_or due i 0 → ⊥)
-    → first_told (drop i (counts_judged line kept due)) ≡ first_told (counts_judged line kept due)
-    → Some (told (count_at line kept due i)) ≡ first_told (counts_judged line kept due)
-counts_differ line kept due i below differs so_far = sym (each_differs (count_at line kept due) 13 i below (ne_eqb _ _ differs)) ∙ so_far
-
--- ---- registers, eight in a row
-
-abbrev register_at : ℕ → List ℕ → List ℕ → ℕ → Judgment
+-- registers, eight in a row
+abbrev pub register_at : ℕ → List ℕ → List ℕ → ℕ → Judgment
 register_at line kept due i = word (line + i / 8) fields.Register (slice_index kept i) (slice_index due i)
-
-pub registers_passed : (line : ℕ) (kept due : List ℕ) (i : ℕ) → i < 32 → get_or kept i 0 ≡ get_or due i 0
-    → first_told (drop i (registers_judged line kept due)) ≡ first_told (registers_judged line kept due)
-    → first_told (drop (i + 1) (registers_judged line kept due)) ≡ first_told (registers_judged line kept due)
-registers_passed line kept due i below same so_far = each_same (register_at line kept due) 32 i below (eq-eqb _ _ same) ∙ so_far
-
-pub registers_differ : (line : ℕ) (kept due : List ℕ) (i : ℕ) → i < 32 → (get_or kept i 0 ≡ get_or due i 0 → ⊥)
-    → first_told (drop i (registers_judged line kept due)) ≡ first_told (registers_judged line kept due)
-    → Some (told (register_at line kept due i)) ≡ first_told (registers_judged line kept due)
-registers_differ line kept due i below differs so_far = sym (each_differs (register_at line kept due) 32 i below (ne_eqb _ _ differs))
-    ∙ so_far
-
-pub counts_end : (line : ℕ) (kept due : List ℕ) (i : ℕ) → i ≡ 13
-    → first_told (drop i (counts_judged line kept due)) ≡ first_told (counts_judged line kept due)
-    → None ≡ first_told (counts_judged line kept due)
-counts_end line kept due i is so_far = ap (λ k. first_told (drop k (counts_judged line kept due))) (sym is) ∙ so_far
-
-pub registers_end : (line : ℕ) (kept due : List ℕ) (i : ℕ) → i ≡ 32
-    → first_told (drop i (registers_judged line kept due)) ≡ first_told (registers_judged line kept due)
-    → None ≡ first_told (registers_judged line kept due)
-registers_end line kept due i is so_far = ap (λ k. first_told (drop k (registers_judged line kept due))) (sym is) ∙ so_far

@@ -7,7 +7,8 @@ use Rattle.std.proofs.lemmas.List.Concat.{flat_map-cons}
 use Rattle.kmp_base.specs.declared.setup.Setup.{Setup}
 use Rattle.kmp_base.specs.Rows.{row_behind, row_text, text_of}
 use Rattle.image_file.specs.Value.{ImageValue, image_bytes}
-use Rattle.report_rows.specs.Ends.{EndValue}
+use Rattle.timetable.specs.declared.CoreEnd.{CoreEnd}
+use Rattle.report_rows.specs.Ends.{EndValue, end_value}
 use Rattle.report_rows.specs.Rows.{bytes_row_at, item_row, memory_row, header_rows, core_rows, access_count_rows, bus_count_rows}
 use Rattle.report_rows.specs.Rows.{wait_count_rows}
 use Rattle.report_text.specs.Report.{ReportValue}
@@ -102,3 +103,11 @@ last_line report =
       length-append run cores,
       length-counts report.counts,
     )
+
+-- the first word stands behind five rows for each core that ended, and no farther than the last line
+pub words_line_behind : (report : ReportValue) (ends : List CoreEnd) → map end_value ends ≡ report.cores
+    → (words_line report ≡ cores_line report + 5 * length ends) × (words_line report ≤ length (report_text report))
+words_line_behind report ends are =
+    let count = length-map ends end_value in
+    let cores = ap (λ (es : List EndValue). length es) are in
+    (omega (arith, words_line_is report, count, cores), omega (arith, counts_line_is report, last_line report))

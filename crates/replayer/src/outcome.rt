@@ -10,7 +10,8 @@ use crate::cores::cores_difference;
 use crate::counts::counts_difference;
 use crate::lines::{cores_line, counts_line, words_line};
 use crate::words::words_difference;
-use report_text::{Report, counts_of};
+use report_build::counts_of;
+use report_text::Report;
 use seq_machine::Machine;
 
 /// The first field that differs behind the accesses, which the machine has made.

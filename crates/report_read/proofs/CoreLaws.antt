@@ -4,26 +4,26 @@ use Rattle.std.proofs.Common.{arith, append_assoc, length-append, length-drop, d
 use Rattle.std.specs.Prelude.{replicate}
 use Rattle.std.specs.List.{AllByRecursion, range_with_len}
 use Rattle.std.proofs.Math.Seq.{take-add}
-use Rattle.std.proofs.lemmas.List.{take_all, length-take-le}
+use Rattle.std.proofs.lemmas.List.{take_all, take_at, drop_at, length-take-le}
 use Rattle.std.proofs.lemmas.List.FromFn.{length-range_with_len}
 use Rattle.timetable.specs.declared.End.TheVariants as ends
+use Rattle.std_laws.proofs.ListLaws.{AllByRecursion-append}
 use Rattle.row_reader.specs.Rows.{Rows}
 use Rattle.row_reader.specs.Starts.{IsPart, EachFits, each_spell}
 use Rattle.row_reader.proofs.PartLaws.{row_part}
-use Rattle.row_reader.proofs.PlainLaws.{all_append}
 use Rattle.row_reader.proofs.ManyLaws.{part_as, each_part, then_known, last_known}
-use Rattle.report_rows.specs.declared.read.EndRow.{EndRow}
+use Rattle.report_row_reader.specs.declared.read.EndRow.{EndRow}
 use Rattle.report_rows.specs.Ends.{EndValue}
 use Rattle.report_rows.specs.Bounds.{IsWord, IsEnd}
 use Rattle.report_rows.specs.Rows.{core_rows}
-use Rattle.report_rows.proofs.RowLaws.{IsEndRow, end_law, registers_law}
+use Rattle.report_row_reader.proofs.RowLaws.{IsEndRow, end_law, registers_law}
 use Rattle.report_text.specs.Text.{rows_of_cores}
 use Rattle.report_read.specs.Reading.{end_of_rows, end_at, ends_at}
-use Rattle.report_read.proofs.ListLaws.{take_first, drop_first, all_cut, all_zeros, all_each, each_all}
+use Rattle.report_read.proofs.ListLaws.{all_cut, all_zeros, all_each, each_all}
 
 -- ---- registers, eight by eight
 
--- the eight from a place on
+-- the eight from an index on
 abbrev eight_at : ℕ → List ℕ → List ℕ
 eight_at first regs = take 8 (drop first regs)
 
@@ -56,14 +56,14 @@ record AreJoined (a b c d : List ℕ) : Type 0 where
 are_joined : (a b c d : List ℕ) → length a ≡ 8 → length b ≡ 8 → length c ≡ 8 → length d ≡ 8 → AreJoined a b c d
 are_joined a b c d la lb lc ld =
     let all : joined a b c d ≡ a ++ (b ++ (c ++ d)) = simp append_assoc in
-    let from_b : drop 8 (joined a b c d) ≡ b ++ (c ++ d) = ap (drop 8) all ∙ drop_first 8 a (b ++ (c ++ d)) la in
+    let from_b : drop 8 (joined a b c d) ≡ b ++ (c ++ d) = ap (drop 8) all ∙ drop_at a (b ++ (c ++ d)) 8 la in
     let from_c : drop 16 (joined a b c d) ≡ c ++ d = sym (drop-drop 8 8 (joined a b c d)) ∙ ap (drop 8) from_b
-    ∙ drop_first 8 b (c ++ d) lb in
-    let from_d : drop 24 (joined a b c d) ≡ d = sym (drop-drop 8 16 (joined a b c d)) ∙ ap (drop 8) from_c ∙ drop_first 8 c d lc in
+    ∙ drop_at b (c ++ d) 8 lb in
+    let from_d : drop 24 (joined a b c d) ≡ d = sym (drop-drop 8 16 (joined a b c d)) ∙ ap (drop 8) from_c ∙ drop_at c d 8 lc in
     record {
-      a_is = ap (take 8) all ∙ take_first 8 a (b ++ (c ++ d)) la;
-      b_is = ap (take 8) from_b ∙ take_first 8 b (c ++ d) lb;
-      c_is = ap (take 8) from_c ∙ take_first 8 c d lc;
+      a_is = ap (take 8) all ∙ take_at a (b ++ (c ++ d)) 8 la;
+      b_is = ap (take 8) from_b ∙ take_at b (c ++ d) 8 lb;
+      c_is = ap (take 8) from_c ∙ take_at c d 8 lc;
       d_is = ap (take 8) from_d ∙ take_all 8 d (omega (arith, ld));
       long = omega (arith, la, lb, lc, ld, length-append (a ++ b ++ c) d, length-append (a ++ b) c, length-append a b);
     }
@@ -128,9 +128,9 @@ end_fields budget core small =
 
 end_to : (budget : ℕ) (z : EndValue) → EndFields budget z → IsEnd budget z
 end_to budget z h =
-    let two = all_append IsWord (regs_in 0 z) (regs_in 8 z) h.1.1.0.1 h.1.1.1.0.1 in
-    let three = all_append IsWord (regs_in 0 z ++ regs_in 8 z) (regs_in 16 z) two h.1.1.1.1.0.1 in
-    let all = all_append IsWord (regs_in 0 z ++ regs_in 8 z ++ regs_in 16 z) (regs_in 24 z) three h.1.1.1.1.1.0.1 in
+    let two = AllByRecursion-append IsWord (regs_in 0 z) (regs_in 8 z) h.1.1.0.1 h.1.1.1.0.1 in
+    let three = AllByRecursion-append IsWord (regs_in 0 z ++ regs_in 8 z) (regs_in 16 z) two h.1.1.1.1.0.1 in
+    let all = AllByRecursion-append IsWord (regs_in 0 z ++ regs_in 8 z ++ regs_in 16 z) (regs_in 24 z) three h.1.1.1.1.1.0.1 in
     record {
       cycles = h.1.0.cycles;
       retired = h.1.0.retired;

@@ -1,22 +1,21 @@
 -- The last row of an image is read where its bytes and those in front mean an image.
 use Rattle.std.proofs.Common.{◌≡◌, ℕ, ◌-◌, ◌*◌, ◌^◌, ◌<◌, ◌≤◌, List, ◌++◌, length, drop, Option, Some, None, Result, Ok, Err, refl, sym, ap}
 use Rattle.std.proofs.Common.{subst, ◌∙◌, arith, length-drop}
-use Rattle.std.proofs.lemmas.List.{take-append-drop}
+use Rattle.std.proofs.lemmas.List.{take-append-drop, drop_at}
 use Rattle.image_file.specs.Value.{ImageValue, image_bytes, memory_bytes}
 use Rattle.image_file.specs.Reading.{Fault, image_in, image_meaning}
 use Rattle.image_file.proofs.ReadingLaws.{only_spelling}
 use Rattle.image_file.proofs.SpellingLaws.{bytes_of_image}
+use Rattle.std_laws.proofs.ListLaws.{AllByRecursion-append}
 use Rattle.row_reader.specs.Rows.{Row}
 use Rattle.row_reader.proofs.NumberLaws.{each_byte}
 use Rattle.row_reader.proofs.PartLaws.{IsRow}
 use Rattle.row_reader.proofs.FieldLaws.{some_is}
-use Rattle.row_reader.proofs.PlainLaws.{all_append}
 use Rattle.report_rows.specs.Bounds.{IsByte}
 use Rattle.report_rows.specs.Rows.{bytes_row}
-use Rattle.report_rows.specs.Reading.{bytes_row_of}
-use Rattle.report_rows.proofs.RowLaws.{bytes_law}
+use Rattle.report_row_reader.specs.Reading.{bytes_row_of}
+use Rattle.report_row_reader.proofs.RowLaws.{bytes_law}
 use Rattle.report_read.specs.Reading.{OpeningValue, image_of, with_last, image_row_of}
-use Rattle.report_read.proofs.ListLaws.{drop_first}
 use Rattle.report_text.proofs.ImageLaws.{AreBytes, image_bytes_are, in_of_meaning, image_is_good}
 use Rattle.report_read.proofs.OpeningLaws.{full_of, IsOpening, front_of, last_of, opening_of, opening_filled, bytes_behind}
 
@@ -62,7 +61,7 @@ with_last_some front None image e = absurd cc
 -- the last bytes are those behind the ones in front
 last_is : (z : OpeningValue) (last : List ℕ) → IsOpening z → opening_of z.setup (z.front ++ last) ≡ z → last_of (z.front ++ last) ≡ last
 last_is z last fits same =
-    ap (λ o. drop (32 * full_of o.size) (z.front ++ last)) same ∙ drop_first (32 * full_of z.size) z.front last fits.full
+    ap (λ o. drop (32 * full_of o.size) (z.front ++ last)) same ∙ drop_at z.front last (32 * full_of z.size) fits.full
 
 image_found : (z : OpeningValue) → IsOpening z → (row : Row) (image : ImageValue) → image_row_of z.size z.front row ≡ Some image
     → IsImageOf z image × (row ≡ last_row image)
@@ -73,7 +72,7 @@ image_found z fits row image e =
     let f = (bytes_law (z.size - length z.front)).found row last w.1 in
     let bytes = z.front ++ last in
     let means = meaning_of_image bytes image (image_in bytes) refl w.2 in
-    let spelled = spelling_of bytes image (all_append IsByte z.front last fits.bytes f.0.1) means in
+    let spelled = spelling_of bytes image (AllByRecursion-append IsByte z.front last fits.bytes f.0.1) means in
     let same = opening_filled z last fits f.0.0 in
     let is_row : row ≡ bytes_row (last_of bytes) = f.1 ∙ ap bytes_row (sym (last_is z last fits same)) in
     subst (λ (b : List ℕ). ((image_meaning b ≡ Ok image) × (opening_of z.setup b ≡ z)) × (row ≡ bytes_row (last_of b))) spelled

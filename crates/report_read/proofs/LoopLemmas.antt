@@ -1,6 +1,6 @@
--- Rows of an image that are read one after another, as a loop does, and the keys that are left of a list.
-use Rattle.std.proofs.Common.{◌≡◌, ℕ, suc, ◌+◌, ◌-◌, ◌<◌, ◌≤◌, List, ◌∷◌, ◌++◌, length, get_or, drop, Result, Ok, ap, refl, add-one}
-use Rattle.std.proofs.Common.{drop-cons, arith}
+-- Rows of an image that are read one after another, as a loop does, and the cores that are left.
+use Rattle.std.proofs.Common.{◌≡◌, ℕ, suc, ◌+◌, ◌-◌, ◌<◌, ◌≤◌, List, ◌∷◌, ◌++◌, Result, Ok, ap, refl}
+use Rattle.std.proofs.Common.{arith}
 use Rattle.std.specs.Borrow.{Bor}
 use Rattle.std.specs.List.{range_with_len}
 use Rattle.kmp_base.specs.declared.fault.Fault.{Fault}
@@ -8,7 +8,7 @@ use Rattle.kmp_base.proofs.ReadingLaws.{with_front_and_rest, all_read_and_rest, 
 use Rattle.row_reader.specs.Rows.{Rows}
 use Rattle.row_reader.specs.Reading.{row_at}
 use Rattle.row_reader.specs.Gives.{stuck_rows, Fails}
-use Rattle.report_rows.specs.Reading.{bytes_row_of}
+use Rattle.report_row_reader.specs.Reading.{bytes_row_of}
 use Rattle.report_read.specs.Reading.{full_rows_at}
 
 -- ---- full rows of an image
@@ -39,12 +39,9 @@ module _ (i n : ℕ) (rows : Rows) (front : List ℕ) (total : Result (List ℕ 
       let none : n - i ≡ 0 = omega arith in
       all_read_and_rest front rows total (rw none at so_far)
 
--- ---- keys that are left
+-- ---- cores that are left
 
 pub range_next : (i n : ℕ) → i < n → range_with_len i (n - i) ≡ i ∷ range_with_len (i + 1) (n - (i + 1))
 range_next i n lt =
     let more : n - i ≡ suc (n - (i + 1)) = omega arith in
     ap (range_with_len i) more
-
-pub key_next : {A : Type 0} (keys : List A) (i : ℕ) (d : A) → i < length keys → drop i keys ≡ get_or keys i d ∷ drop (i + 1) keys
-key_next keys i d lt = rw (add-one, drop-cons keys i d lt)

@@ -4,28 +4,28 @@ use Rattle.std.proofs.Common.{sym, ap, subst, ◌∙◌, arith, length-append, l
 use Rattle.std.specs.Prelude.{codes, replicate}
 use Rattle.std.specs.List.{range_with_len}
 use Rattle.std.proofs.lemmas.List.{append-nil, take-append-drop, length-take-le, length-replicate, take-append-le, drop-append-le, take_all}
-use Rattle.std.proofs.lemmas.List.{nil_from_length}
+use Rattle.std.proofs.lemmas.List.{nil_from_length, take_at, drop_at}
 use Rattle.kmp_base.specs.declared.setup.Setup.{Setup}
 use Rattle.kmp_base.specs.declared.setup.MachineKind.TheVariants.{Plain}
 use Rattle.kmp_base.specs.declared.setup.Policy.{Policy}
 use Rattle.kmp_base.specs.declared.setup.Policy.TheVariants as policies
 use Rattle.kmp_base.specs.declared.setup.Turns.{Turns}
 use Rattle.kmp_base.specs.declared.setup.Turns.TheVariants as turns
+use Rattle.std_laws.proofs.ListLaws.{AllByRecursion-append}
 use Rattle.row_reader.specs.Rows.{Rows}
 use Rattle.row_reader.specs.Starts.{IsPart}
 use Rattle.kmp_base.specs.Bind.{◌>>=◌}
 use Rattle.row_reader.specs.Reading.{row_at}
 use Rattle.row_reader.proofs.PartLaws.{one_line, row_part, then_part}
-use Rattle.row_reader.proofs.PlainLaws.{all_append}
 use Rattle.row_reader.proofs.ManyLaws.{part_as, last_part, map_part, then_known, last_known}
 use Rattle.report_rows.specs.Bounds.{IsByte, IsHeader}
 use Rattle.report_rows.specs.Rows.{number_row, bytes_row, bytes_row_at, header_rows}
-use Rattle.report_rows.specs.Reading.{bytes_row_of}
-use Rattle.report_rows.proofs.RowLaws.{fixed_law, number_law, sets_law, policy_law, turns_law, bytes_law}
+use Rattle.report_row_reader.specs.Reading.{bytes_row_of}
+use Rattle.report_row_reader.proofs.RowLaws.{fixed_law, number_law, sets_law, policy_law, turns_law, bytes_law}
 use Rattle.report_text.proofs.ImageLaws.{AreBytes}
 use Rattle.report_read.specs.BadRow.{BeginsOpening, opening_rows}
 use Rattle.report_read.specs.Reading.{OpeningValue, caches_at, header_at, full_rows_at, opening_at}
-use Rattle.report_read.proofs.ListLaws.{take_first, drop_first, all_cut, all_zeros}
+use Rattle.report_read.proofs.ListLaws.{all_cut, all_zeros}
 
 -- ---- the header
 
@@ -166,7 +166,7 @@ full_to n bytes h =
     ∙ ap length both in
     let first : length (take 32 bytes) ≡ 32 = h.0.0 in
     let others : length (drop 32 bytes) ≡ 32 * n = h.1.0 in
-    (omega (arith, long, first, others), subst AreBytes both (all_append IsByte (take 32 bytes) (drop 32 bytes) h.0.1 h.1.1))
+    (omega (arith, long, first, others), subst AreBytes both (AllByRecursion-append IsByte (take 32 bytes) (drop 32 bytes) h.0.1 h.1.1))
 
 full_from : (n : ℕ) (bytes : List ℕ) → IsFull (suc n) bytes → BeginsFull n bytes
 full_from n bytes h =
@@ -189,8 +189,8 @@ full_rows_part (suc n) =
     (λ first fits. map_part (IsFull n) (full_rows n) (full_rows_at n) (λ bytes. (take 32 bytes ≡ first) × IsFull n (drop 32 bytes))
     (λ bytes. full_rows n (drop 32 bytes))
     (λ others. first ++ others)
-    (λ others h. (take_first 32 first others fits.0, subst (IsFull n) (sym (drop_first 32 first others fits.0)) h))
-    (λ others h. ap (full_rows n) (sym (drop_first 32 first others fits.0)))
+    (λ others h. (take_at first others 32 fits.0, subst (IsFull n) (sym (drop_at first others 32 fits.0)) h))
+    (λ others h. ap (full_rows n) (sym (drop_at first others 32 fits.0)))
     (λ bytes h. (drop 32 bytes, h.1, ap (λ front. front ++ drop 32 bytes) (sym h.0) ∙ take-append-drop 32 bytes))
     (full_rows_part n)))
 
@@ -267,14 +267,14 @@ opening_part =
 
 -- ---- the opening of an image
 
--- rows of bytes by their places
-rows_from : (bytes : List ℕ) (place n : ℕ) → map (bytes_row_at bytes) (range_with_len place n) ≡ full_rows n (drop (32 * place) bytes)
-rows_from bytes place zero = refl
-rows_from bytes place (suc n) =
-    let next : 32 * place + 32 ≡ 32 * (place + 1) = omega arith in
-    ap (λ (r : Rows). bytes_row_at bytes place ∷ r)
-    (rows_from bytes (place + 1) n ∙ ap (λ m. full_rows n (drop m bytes)) (sym next)
-    ∙ ap (full_rows n) (sym (drop-drop 32 (32 * place) bytes)))
+-- rows of bytes by their indices
+rows_from : (bytes : List ℕ) (index n : ℕ) → map (bytes_row_at bytes) (range_with_len index n) ≡ full_rows n (drop (32 * index) bytes)
+rows_from bytes index zero = refl
+rows_from bytes index (suc n) =
+    let next : 32 * index + 32 ≡ 32 * (index + 1) = omega arith in
+    ap (λ (r : Rows). bytes_row_at bytes index ∷ r)
+    (rows_from bytes (index + 1) n ∙ ap (λ m. full_rows n (drop m bytes)) (sym next)
+    ∙ ap (full_rows n) (sym (drop-drop 32 (32 * index) bytes)))
 
 -- the rows of bytes in front, and of those behind them
 rows_apart : (all n more : ℕ) (front last : List ℕ) → all ≡ n + more → length front ≡ 32 * n
@@ -358,7 +358,7 @@ pub opening_filled : (z : OpeningValue) (last : List ℕ) → IsOpening z → le
     → opening_of z.setup (z.front ++ last) ≡ z
 opening_filled z last fits rest =
     let size : length (z.front ++ last) ≡ z.size = omega (arith, length-append z.front last, rest, fits.full, full_within z.size) in
-    opening_same z (z.front ++ last) size (take_first (32 * full_of z.size) z.front last fits.full)
+    opening_same z (z.front ++ last) size (take_at z.front last (32 * full_of z.size) fits.full)
 
 -- rows that begin an opening: zeros may be the rest of its bytes
 pub begins_opening : (z : OpeningValue) (rows rest : Rows) → IsOpening z → rows ++ rest ≡ rows_of_opening z → BeginsOpening rows
@@ -371,7 +371,7 @@ begins_opening z rows rest fits are =
       setup = z.setup;
       header = fits.header;
       bytes = bytes;
-      are_bytes = all_append IsByte z.front zeros fits.bytes (all_zeros IsByte (z.size - length z.front) (omega arith));
+      are_bytes = AllByRecursion-append IsByte z.front zeros fits.bytes (all_zeros IsByte (z.size - length z.front) (omega arith));
       some = omega (arith, size, fits.some);
       few = omega (arith, size, fits.few);
       rest = rest;

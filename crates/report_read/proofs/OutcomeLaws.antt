@@ -19,8 +19,8 @@ use Rattle.report_rows.specs.Bounds.{IsHeader, IsEntry, IsItem, IsEnd, IsMemoryW
 use Rattle.report_rows.specs.Rows.{entry_row, item_row, core_rows, core_row, registers_row, memory_row, count_row, access_count_rows}
 use Rattle.report_rows.specs.Rows.{bus_count_rows, wait_count_rows}
 use Rattle.report_rows.specs.Names.{count_names}
-use Rattle.report_rows.specs.Reading.{entry_row_of, memory_row_of, count_row_of}
-use Rattle.report_rows.proofs.RowLaws.{fixed_law, entry_law, memory_law, count_law}
+use Rattle.report_row_reader.specs.Reading.{entry_row_of, memory_row_of, count_row_of}
+use Rattle.report_row_reader.proofs.RowLaws.{fixed_law, entry_law, memory_law, count_law}
 use Rattle.report_text.specs.Report.{ReportValue}
 use Rattle.report_text.specs.Text.{rows_of_cores, count_rows}
 use Rattle.report_read.specs.Reading.{after_word, counts_at, outcome_at}
@@ -123,25 +123,25 @@ counts_other counts rest = record {
 abbrev AreCounts : List ℕ → Type 0
 AreCounts counts = (length counts ≡ 13) × AllByRecursion IsCount counts
 
--- a row for each name, with the numbers of their places
-abbrev rows_by_place : List (List ℕ) → (ℕ → ℕ) → Rows
-rows_by_place [] number = []
-rows_by_place (name ∷ names) number = count_row name (number 0) ∷ rows_by_place names (λ place. number (suc place))
+-- a row for each name, with the number of its index
+abbrev rows_by_index : List (List ℕ) → (ℕ → ℕ) → Rows
+rows_by_index [] number = []
+rows_by_index (name ∷ names) number = count_row name (number 0) ∷ rows_by_index names (λ index. number (suc index))
 
 -- a count as the only row
 abbrev one_count : List ℕ → ℕ → Rows
 one_count name n = one_line (count_row name) n
 
-counts_by_place : (names : List (List ℕ)) (counts : List ℕ) → length counts ≡ length names
-    → each_spell one_count names counts ≡ rows_by_place names (slice_index counts)
-counts_by_place [] counts long = refl
-counts_by_place (name ∷ names) [] long = absurd (omega (arith, long))
-counts_by_place (name ∷ names) (n ∷ counts) long =
-    ap (λ (r : Rows). count_row name n ∷ r) (counts_by_place names counts (omega (arith, long)))
+counts_by_index : (names : List (List ℕ)) (counts : List ℕ) → length counts ≡ length names
+    → each_spell one_count names counts ≡ rows_by_index names (slice_index counts)
+counts_by_index [] counts long = refl
+counts_by_index (name ∷ names) [] long = absurd (omega (arith, long))
+counts_by_index (name ∷ names) (n ∷ counts) long =
+    ap (λ (r : Rows). count_row name n ∷ r) (counts_by_index names counts (omega (arith, long)))
 
 counts_rows : (counts : List ℕ) → AreCounts counts → each_spell one_count count_names counts ≡ count_rows counts
 unfolding access_count_rows bus_count_rows wait_count_rows
-counts_rows counts are = counts_by_place count_names counts are.0
+counts_rows counts are = counts_by_index count_names counts are.0
 
 counts_part : IsPart AreCounts count_rows counts_at
 counts_part =

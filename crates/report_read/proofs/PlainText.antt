@@ -2,16 +2,17 @@
 use Rattle.std.proofs.Common.{ℕ, ◌+◌, ◌/◌, ◌^◌, ◌<◌, ◌≤◌, List, [], ◌∷◌, ◌++◌, length, map, refl, arith}
 use Rattle.std.specs.Prelude.{codes}
 use Rattle.std.specs.List.{AllByRecursion, range_with_len}
+use Rattle.std_laws.proofs.ListLaws.{AllByRecursion-append}
 use Rattle.access_log.specs.declared.Item.{Item}
 use Rattle.image_file.specs.Value.{ImageValue, image_bytes, memory_bytes}
 use Rattle.row_reader.specs.Rows.{Rows, IsPlainRow}
-use Rattle.row_reader.proofs.PlainLaws.{plain_by_test, all_append}
+use Rattle.row_reader.proofs.PlainLaws.{plain_by_test}
 use Rattle.report_rows.specs.declared.MemoryWord.{MemoryWord}
 use Rattle.report_rows.specs.Ends.{EndValue}
 use Rattle.report_rows.specs.Bounds.{IsItem, IsEnd}
 use Rattle.report_rows.specs.Rows.{bytes_row_at, item_row, memory_row, core_rows, header_rows}
-use Rattle.report_rows.proofs.PlainRowLaws.{header_plain, number_row_plain, bytes_row_plain, item_plain, memory_plain, core_rows_plain}
-use Rattle.report_rows.proofs.PlainRowLaws.{count_rows_plain}
+use Rattle.report_row_reader.proofs.PlainRowLaws.{header_plain, number_row_plain, bytes_row_plain, item_plain, memory_plain, core_rows_plain}
+use Rattle.report_row_reader.proofs.PlainRowLaws.{count_rows_plain}
 use Rattle.report_text.specs.Report.{ReportValue}
 use Rattle.report_text.specs.Text.{image_rows, rows_of_cores, count_rows, run_rows, outcome_rows, report_rows}
 use Rattle.report_text.specs.Form.{IsReport}
@@ -19,9 +20,9 @@ use Rattle.report_text.specs.Form.{IsReport}
 abbrev ArePlain : Rows → Type 0
 ArePlain rows = AllByRecursion IsPlainRow rows
 
-bytes_plain_at : (bytes places : List ℕ) → ArePlain (map (bytes_row_at bytes) places)
+bytes_plain_at : (bytes indices : List ℕ) → ArePlain (map (bytes_row_at bytes) indices)
 bytes_plain_at bytes [] = tt
-bytes_plain_at bytes (place ∷ places) = (bytes_row_plain _, bytes_plain_at bytes places)
+bytes_plain_at bytes (index ∷ indices) = (bytes_row_plain _, bytes_plain_at bytes indices)
 
 image_plain : (image : ImageValue) → length (image_bytes image) < 2 ^ 32 → ArePlain (image_rows image)
 unfolding image_rows
@@ -39,7 +40,7 @@ cores_plain : (budget first : ℕ) (cores : List EndValue) → budget < 2 ^ 64 �
     → AllByRecursion (IsEnd budget) cores → ArePlain (rows_of_cores first cores)
 cores_plain budget first [] small few are = tt
 cores_plain budget first (ended ∷ cores) small few are =
-    all_append IsPlainRow (core_rows first ended) (rows_of_cores (first + 1) cores)
+    AllByRecursion-append IsPlainRow (core_rows first ended) (rows_of_cores (first + 1) cores)
     (core_rows_plain first budget ended (omega arith) small are.0) (cores_plain budget (first + 1) cores small (omega arith) are.1)
 
 words_plain : (words : List MemoryWord) → ArePlain (map memory_row words)
@@ -51,13 +52,13 @@ unfolding report_rows
 report_plain r i =
     let few : r.setup.cores ≤ 8 = i.header.limits.cores in
     let most : r.setup.budget ≤ 100000 = i.header.limits.budget in
-    let header = all_append IsPlainRow (header_rows r.setup) (image_rows r.image) (header_plain r.setup i.header)
+    let header = AllByRecursion-append IsPlainRow (header_rows r.setup) (image_rows r.image) (header_plain r.setup i.header)
     (image_plain r.image i.image_size) in
-    let run = all_append IsPlainRow (header_rows r.setup ++ image_rows r.image) (map item_row r.items) header
+    let run = AllByRecursion-append IsPlainRow (header_rows r.setup ++ image_rows r.image) (map item_row r.items) header
     (items_plain r.setup.cores (memory_bytes r.image) r.items few i.items) in
     let cores = cores_plain r.setup.budget 0 r.cores (omega (arith, most)) (omega (arith, i.cores, few)) i.ends in
-    let words = all_append IsPlainRow (rows_of_cores 0 r.cores) (map memory_row r.words) cores (words_plain r.words) in
-    let outcome = all_append IsPlainRow (rows_of_cores 0 r.cores ++ map memory_row r.words) (count_rows r.counts) words
+    let words = AllByRecursion-append IsPlainRow (rows_of_cores 0 r.cores) (map memory_row r.words) cores (words_plain r.words) in
+    let outcome = AllByRecursion-append IsPlainRow (rows_of_cores 0 r.cores ++ map memory_row r.words) (count_rows r.counts) words
     (count_rows_plain r.counts i.counts) in
-    all_append IsPlainRow (run_rows r ++ outcome_rows r) ((codes "end" ∷ []) ∷ [])
-    (all_append IsPlainRow (run_rows r) (outcome_rows r) run outcome) ((plain_by_test (codes "end") refl, tt), tt)
+    AllByRecursion-append IsPlainRow (run_rows r ++ outcome_rows r) ((codes "end" ∷ []) ∷ [])
+    (AllByRecursion-append IsPlainRow (run_rows r) (outcome_rows r) run outcome) ((plain_by_test (codes "end") refl, tt), tt)

@@ -9,8 +9,8 @@ use Rattle.row_reader.specs.Fields.{parts_of}
 use Rattle.row_reader.specs.Reading.{row_at}
 use Rattle.row_reader.proofs.PartLaws.{row_takes}
 use Rattle.report_rows.specs.Rows.{bytes_row}
-use Rattle.report_rows.specs.Reading.{bytes_row_of}
-use Rattle.report_rows.proofs.RowLaws.{bytes_law}
+use Rattle.report_row_reader.specs.Reading.{bytes_row_of}
+use Rattle.report_row_reader.proofs.RowLaws.{bytes_law}
 
 abbrev pub size_of_parts : Row → ℕ
 size_of_parts [] = 0

@@ -3,6 +3,7 @@ use Rattle.std.proofs.Common.{◌≡◌, ℕ, ◌^◌, ◌≤◌, List, [], ◌�
 use Rattle.std.proofs.Common.{append_assoc, arith, inl, inr}
 use Rattle.std.specs.Prelude.{codes}
 use Rattle.std.proofs.lemmas.List.{append-nil}
+use Rattle.std.proofs.lemmas.Option.{none-some}
 use Rattle.image_file.specs.Value.{ImageValue, image_bytes, memory_bytes}
 use Rattle.image_file.specs.Reading.{image_meaning}
 use Rattle.row_reader.specs.Rows.{Row, Rows, rows_of}
@@ -10,7 +11,7 @@ use Rattle.kmp_base.specs.Bind.{◌>>=◌}
 use Rattle.kmp_base.proofs.ReadingLaws.{bind_ok, bind_err}
 use Rattle.row_reader.specs.Reading.{chosen, row_at}
 use Rattle.row_reader.specs.Starts.{Stops}
-use Rattle.row_reader.proofs.PartLaws.{row_takes, ok_is, err_is, chosen_err, none_some, head_is, tail_is}
+use Rattle.row_reader.proofs.PartLaws.{row_takes, ok_is, err_is, chosen_err, head_is, tail_is}
 use Rattle.row_reader.proofs.FieldLaws.{some_is}
 use Rattle.row_reader.proofs.TextLaws.{text_is, rows_are}
 use Rattle.report_rows.specs.Bounds.{IsHeader}
@@ -197,7 +198,7 @@ not_behind o row more b fits =
     let no = ap (λ q. q.1) both in
     absurd cc
 
--- the three places where reading may be stuck
+-- where reading may be stuck
 
 stuck_in_opening : (rows stuck : Rows) → Stops IsOpening rows_of_opening rows stuck → Halts rows stuck
 stuck_in_opening rows stuck s = record {
@@ -234,8 +235,8 @@ stuck_at_image rows stuck later o fits are e =
         | inl b ↦
             let p = behind o (row ∷ []) b fits in
             let spelled : row ≡ last_row b.report.image = head_is row (last_row b.report.image) b.rest (rows_behind b.report ++ []) p.1 in
-            none_some b.report.image (image_at o row) (l.1 row more is)
-            (ap (image_at o) spelled ∙ (image_law o fits).again b.report.image (image_in o b.report b.is p.0))
+            none-some b.report.image (sym (l.1 row more is)
+            ∙ ap (image_at o) spelled ∙ (image_law o fits).again b.report.image (image_in o b.report b.is p.0))
         | inr b ↦ not_behind o row [] b fits
       ];
     }

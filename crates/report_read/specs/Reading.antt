@@ -15,11 +15,11 @@ use Rattle.row_reader.specs.Rows.{Row, Rows, is_named}
 use Rattle.kmp_base.specs.Bind.{◌>>=◌}
 use Rattle.row_reader.specs.Reading.{row_at, many_at, each_at}
 use Rattle.report_rows.specs.declared.MemoryWord.{MemoryWord}
-use Rattle.report_rows.specs.declared.read.EndRow.{EndRow}
+use Rattle.report_row_reader.specs.declared.read.EndRow.{EndRow}
 use Rattle.report_rows.specs.Ends.{EndValue}
 use Rattle.report_rows.specs.Names.{count_names}
-use Rattle.report_rows.specs.Reading.{fixed_of, number_row_of, sets_row_of, policy_row_of, turns_row_of, bytes_row_of, entry_row_of}
-use Rattle.report_rows.specs.Reading.{end_row_of, registers_row_of, memory_row_of, count_row_of}
+use Rattle.report_row_reader.specs.Reading.{fixed_of, number_row_of, sets_row_of, policy_row_of, turns_row_of, bytes_row_of, entry_row_of}
+use Rattle.report_row_reader.specs.Reading.{end_row_of, registers_row_of, memory_row_of, count_row_of}
 use Rattle.report_text.specs.Report.{ReportValue}
 
 -- ---- the header

@@ -6,11 +6,11 @@ ghost use Rattle.report_read.specs.Reading.{caches_at, header_at};
 
 use crate::rows::{first_row, fixed_at, number_at};
 use kmp_base::{MOST_BUDGET, MOST_CORES, MOST_WAYS, MachineKind, Policy, Setup, Turns};
-use report_rows::{policy_row, sets_row, turns_row};
+use report_row_reader::{policy_row, sets_row, turns_row};
 use row_reader::Stuck;
 
 /// The seed and the caches, and the setup with them.
-#[tactic(auto, unfolding(report_rows::specs::Reading::sets_row_of, crate::specs::Reading::caches_at))]
+#[tactic(auto, unfolding(report_row_reader::specs::Reading::sets_row_of, crate::specs::Reading::caches_at))]
 fn caches<'a>(
     text: &'a [u8],
     cores: u32,
@@ -39,7 +39,7 @@ fn caches<'a>(
 }
 
 /// The setup that a header tells.
-#[tactic(auto, unfolding(report_rows::specs::Reading::policy_row_of, report_rows::specs::Reading::turns_row_of, crate::specs::Reading::header_at))]
+#[tactic(auto, unfolding(report_row_reader::specs::Reading::policy_row_of, report_row_reader::specs::Reading::turns_row_of, crate::specs::Reading::header_at))]
 pub(crate) fn header(text: &[u8]) -> Result<(Setup, &[u8]), Stuck<'_>>
     ensures found { Gives (λ x. (x.0, rows_of x.1.now)) result (header_at (rows_of text.now)) }
     ensures some { IfOk result (λ x. 0 < x.0.cores) }

@@ -4,14 +4,14 @@ ghost use Rattle.row_reader.specs.Rows.{rows_of};
 ghost use Rattle.row_reader.specs.Fields.{parts_of};
 ghost use Rattle.row_reader.specs.Reading.{row_at};
 ghost use Rattle.row_reader.specs.Gives.{Gives};
-ghost use Rattle.report_rows.specs.Reading.{bytes_row_of};
+ghost use Rattle.report_row_reader.specs.Reading.{bytes_row_of};
 ghost use Rattle.report_read.specs.Reading.{full_rows_at, opening_at, image_row_of};
 
 use crate::header::header;
 use crate::rows::{first_row, number_at};
 use image_file::{Image, ImageFault, read_image};
 use kmp_base::{Fault, Setup};
-use report_rows::bytes_row;
+use report_row_reader::bytes_row;
 use report_text::NoMemory;
 use row_reader::{Stuck, cut_row};
 use std::alloc::Global;
@@ -50,7 +50,7 @@ fn full_row(row: &[u8]) -> Option<[u8; 32]>
 }
 
 /// So many rows of 32 bytes. Memory is taken for the rows that are there.
-#[tactic(auto, unfolding(report_rows::specs::Reading::bytes_row_of))]
+#[tactic(auto, unfolding(report_row_reader::specs::Reading::bytes_row_of))]
 fn full_rows<'a>(alloc: Global, text: &'a [u8], rows: u32) -> Result<(Vec<u8>, &'a [u8]), Stuck<'a>>
     ensures found { Gives (λ x. (x.0.items, rows_of x.1.now)) result (full_rows_at rows (rows_of text.now)) }
     ensures len { IfOk result (λ x. length x.0.items ≡ 32 * rows) }

@@ -12,16 +12,15 @@ use access_log::{Entry, History, Item};
 use image_file::Image;
 use kmp_base::{Fault, Setup};
 use mips_isa::CoreState;
-use report_rows::{
-    Counts, MemoryWord, count_name, count_row, end_row, entry_row, last_row, memory_row,
-};
+use report_row_reader::{count_row, end_row, entry_row, last_row, memory_row};
+use report_rows::{Counts, MemoryWord, count_name};
 use report_text::{NoMemory, Report};
 use row_reader::{Stuck, named_row};
 use std::alloc::Global;
 use timetable::{CoreEnd, Rows};
 
 /// The accesses that stand first in a text.
-#[tactic(auto, unfolding(report_rows::specs::Reading::entry_row_of))]
+#[tactic(auto, unfolding(report_row_reader::specs::Reading::entry_row_of))]
 fn entries<'a>(
     alloc: Global,
     text: &'a [u8],
@@ -56,7 +55,7 @@ fn registers(a: [u32; 8], b: [u32; 8], c: [u32; 8], d: [u32; 8]) -> [u32; 32]
 }
 
 /// How a core ended.
-#[tactic(auto, unfolding(report_rows::specs::Reading::end_row_of, crate::specs::Reading::end_at))]
+#[tactic(auto, unfolding(report_row_reader::specs::Reading::end_row_of, crate::specs::Reading::end_at))]
 fn end<'a>(
     alloc: Global,
     text: &'a [u8],
@@ -104,7 +103,7 @@ fn ends<'a>(
 }
 
 /// The words that stand first in a text, at addresses from `low` on within so many bytes.
-#[tactic(auto, unfolding(report_rows::specs::Reading::memory_row_of))]
+#[tactic(auto, unfolding(report_row_reader::specs::Reading::memory_row_of))]
 fn words<'a>(
     alloc: Global,
     text: &'a [u8],
@@ -129,7 +128,7 @@ fn words<'a>(
 }
 
 /// The counts.
-#[tactic(auto, unfolding(report_rows::specs::Reading::count_row_of))]
+#[tactic(auto, unfolding(report_row_reader::specs::Reading::count_row_of))]
 fn counts(text: &[u8]) -> Result<(Counts, &[u8]), Stuck<'_>>
     ensures { Gives (λ x. (x.0.values, rows_of x.1.now)) result (counts_at (rows_of text.now)) }
 {
@@ -158,7 +157,7 @@ fn history(alloc: Global, entries: &[Entry]) -> Result<History, NoMemory>
 }
 
 /// What stands behind an image.
-#[tactic(auto, unfolding(report_rows::specs::Reading::fixed_of, crate::specs::Reading::outcome_at))]
+#[tactic(auto, unfolding(report_row_reader::specs::Reading::fixed_of, crate::specs::Reading::outcome_at))]
 pub(crate) fn outcome<'a>(
     alloc: Global,
     text: &'a [u8],
@@ -172,11 +171,12 @@ pub(crate) fn outcome<'a>(
 {
     let bytes = 8 * image.memory_lines;
     let (entries, rest) = entries(alloc, text, setup.cores, bytes)?;
+    let history = history(alloc, &entries)?;
+    drop(entries);
     let (cores, rest) = ends(alloc, rest, setup.budget, setup.cores)?;
     let (words, rest) = words(alloc, rest, bytes, 4 * image.code.len() as u32)?;
     let (counts, rest) = counts(rest)?;
     let (_, rest) = first_row(rest, |row| last_row(row))?;
-    let history = history(alloc, &entries)?;
     let report = Report {
         setup,
         image,

@@ -5,10 +5,10 @@ ghost use Rattle.row_reader.specs.Rows.{Row, rows_of};
 ghost use Rattle.row_reader.specs.Fields.{parts_of};
 ghost use Rattle.row_reader.specs.Reading.{row_at};
 ghost use Rattle.row_reader.specs.Gives.{Gives};
-ghost use Rattle.report_rows.specs.Reading.{fixed_of, number_row_of, registers_row_of};
+ghost use Rattle.report_row_reader.specs.Reading.{fixed_of, number_row_of, registers_row_of};
 
 use kmp_base::Fault;
-use report_rows::{fixed_row, number_row, registers_row};
+use report_row_reader::{fixed_row, number_row, registers_row};
 use row_reader::{Stuck, cut_row};
 
 /// The value that `read` finds in the first row, and the text behind the row.
@@ -35,7 +35,7 @@ pub(crate) fn first_row<'a, T: Copy, F: FnOnce(&[u8]) -> Option<T>>(
 }
 
 /// The text behind a row of these two parts, which stands first.
-#[tactic(auto, unfolding(report_rows::specs::Reading::fixed_of))]
+#[tactic(auto, unfolding(report_row_reader::specs::Reading::fixed_of))]
 pub(crate) fn fixed_at<'a>(
     text: &'a [u8],
     first: &[u8],
@@ -48,7 +48,7 @@ pub(crate) fn fixed_at<'a>(
 }
 
 /// The number behind a name in the first row, and the text behind the row.
-#[tactic(auto, unfolding(report_rows::specs::Reading::number_row_of))]
+#[tactic(auto, unfolding(report_row_reader::specs::Reading::number_row_of))]
 pub(crate) fn number_at<'a>(
     text: &'a [u8],
     title: &[u8],
@@ -64,7 +64,7 @@ pub(crate) fn number_at<'a>(
 }
 
 /// Eight registers of a core in the first row, and the text behind the row.
-#[tactic(auto, unfolding(report_rows::specs::Reading::registers_row_of))]
+#[tactic(auto, unfolding(report_row_reader::specs::Reading::registers_row_of))]
 pub(crate) fn registers_at(
     text: &[u8],
     core: u32,

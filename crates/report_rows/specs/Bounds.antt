@@ -29,7 +29,7 @@ pub record IsHeader (setup : Setup) : Type 0 where
   pub seed : IsWord setup.seed
 
 -- An address of a word within so many bytes of memory.
-pub record IsPlace (bytes addr : ℕ) : Type 0 where
+pub record IsAddress (bytes addr : ℕ) : Type 0 where
   pub aligned : addr % 4 ≡ 0
   pub inside : addr < bytes
 
@@ -38,7 +38,7 @@ pub record IsEntry (cores bytes : ℕ) (entry : Entry) : Type 0 where
   pub core : entry.core < cores
   pub nth : IsTime entry.nth
   pub kind : entry.kind ≢ Fetch
-  pub addr : IsPlace bytes entry.addr
+  pub addr : IsAddress bytes entry.addr
   pub old : IsWord entry.old
   pub new : IfSome entry.new IsWord
 
@@ -59,7 +59,7 @@ pub record IsEnd (budget : ℕ) (ended : EndValue) : Type 0 where
 
 -- A memory word at an address from `low` on, that isn't 0.
 pub record IsMemoryWord (bytes low : ℕ) (word : MemoryWord) : Type 0 where
-  pub addr : IsPlace bytes word.addr
+  pub addr : IsAddress bytes word.addr
   pub from : low ≤ word.addr
   pub some : 1 ≤ word.value
   pub value : IsWord word.value

@@ -1,14 +1,5 @@
 -- The words of a report for what is one of a few.
 use Rattle.std.specs.Prelude.{ℕ, Bool, true, false, List, [], ◌∷◌, codes}
-use Rattle.access_log.specs.declared.Letter.{Letter}
-use Rattle.access_log.specs.declared.Letter.TheVariants as letters
-
-abbrev pub letter_name : Letter → List ℕ
-letter_name letters.M = codes "M"
-letter_name letters.O = codes "O"
-letter_name letters.E = codes "E"
-letter_name letters.S = codes "S"
-letter_name letters.I = codes "I"
 
 abbrev pub bit_name : Bool → List ℕ
 bit_name true = codes "1"

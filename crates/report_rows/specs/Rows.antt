@@ -5,6 +5,7 @@ use Rattle.hex.specs.Hex.{encode_lower}
 use Rattle.kmp_base.specs.Text.{hex8, hex4}
 use Rattle.kmp_base.specs.Names.{machine_name, policy_name, turns_name}
 use Rattle.kmp_base.specs.declared.setup.Setup.{Setup}
+use Rattle.access_log.specs.Names.{letter_name}
 use Rattle.access_log.specs.declared.Entry.{Entry}
 use Rattle.access_log.specs.declared.Transaction.{Transaction}
 use Rattle.access_log.specs.declared.Item.{Item}
@@ -14,7 +15,7 @@ use Rattle.report_rows.specs.declared.MemoryWord.{MemoryWord}
 use Rattle.report_rows.specs.Ends.{EndValue}
 use Rattle.mips_isa.specs.Names.{kind_name}
 use Rattle.timetable.specs.Names.{end_name}
-use Rattle.report_rows.specs.Names.{letter_name, bit_name, count_names}
+use Rattle.report_rows.specs.Names.{bit_name, count_names}
 
 -- a number, or `-` for none
 abbrev pub number_or_dash : Option ℕ → List ℕ

@@ -1,23 +1,8 @@
-//! The rows of a report: each as text, and each read from its text.
-//!
-//! The laws that other crates cite:
-//! - `proofs/RowLaws`: what is read of a row is what the row spells.
-//! - `proofs/PlainRowLaws`: the rows are plain, so they can be told from a report's text.
+//! The rows of a report, and what they may say.
 #![tactic(auto)]
 
-mod fields;
-mod names;
-mod read;
-mod spell;
-
-pub use names::{count_name, letter_name};
-pub use read::{
-    EndRow, bytes_row, count_row, end_row, entry_row, fixed_row, last_row, memory_row, number_row,
-    policy_row, registers_row, sets_row, turns_row,
-};
-pub use spell::{
-    access_counts, bus_counts, core_end, header, image, item, memory, number, wait_counts,
-};
+ghost use Rattle.std.specs.Prelude.{◌≡◌, ◌<◌, ◌≤◌, [], length, slice_index_or};
+ghost use Rattle.report_rows.specs.Names.{count_names};
 
 /// A word of memory, and the address of its first byte.
 #[derive(Clone, Copy, Debug, PartialEq, Eq)]
@@ -30,4 +15,30 @@ pub struct MemoryWord {
 #[derive(Clone, Copy)]
 pub struct Counts {
     pub values: [u64; 13],
+}
+
+/// The names of the counts, in the order of their rows.
+const COUNT_NAMES: [&str; 13] = [
+    "retired",
+    "loads",
+    "stores",
+    "cas",
+    "swapped",
+    "transactions",
+    "exclusive",
+    "owned",
+    "upgrades",
+    "flushes",
+    "wait-fetch",
+    "wait-operand",
+    "wait-access",
+];
+
+/// The name of the count at an index.
+pub fn count_name(index: usize) -> &'static str
+    requires index { index < 13 }
+    ensures name { result.now ≡ slice_index_or count_names index [] }
+    ensures short { length result.now ≤ 12 }
+{
+    COUNT_NAMES[index]
 }

@@ -4,7 +4,7 @@ use Rattle.kmp_base.specs.declared.setup.Setup.{Setup}
 use Rattle.kmp_base.specs.declared.setup.MachineKind.{MachineKind}
 use Rattle.kmp_base.specs.declared.setup.MachineKind.TheVariants.{Plain}
 use Rattle.kmp_base.specs.declared.setup.Turns.{Turns}
-use Rattle.kmp_base.specs.declared.setup.Turns.TheVariants.{Round}
+use Rattle.kmp_base.specs.declared.setup.Turns.TheVariants.{Round, Threads}
 use Rattle.access_log.specs.declared.Entry.{Entry}
 use Rattle.access_log.specs.Replay.{own}
 use Rattle.access_log.specs.Stamps.{Stamp, IsRising}
@@ -25,9 +25,11 @@ in_cycles before (entry ∷ order) =
 abbrev pub IsInRounds : List Entry → Type 0
 IsInRounds order = IsRising (in_cycles [] order)
 
--- By the turns and the machine. In turns that no machine has yet, no order is right.
+-- By the turns and the machine: cores on threads have their cycles in any order. In turns that no machine has yet, no order is
+-- right.
 abbrev pub IsInTurnsOn : Turns → MachineKind → List Entry → Type 0
 IsInTurnsOn Round Plain order = IsInRounds order
+IsInTurnsOn Threads Plain order = Unit {0}
 IsInTurnsOn turns machine order = ⊥
 
 abbrev pub IsInTurns : Setup → List Entry → Type 0

@@ -9,24 +9,25 @@ use Rattle.std.proofs.lemmas.List.{take_rest}
 use Rattle.std.proofs.lemmas.List.Quantifiers.{position-Some}
 use Rattle.std.proofs.lemmas.List.Sums.{fails_before_first}
 use Rattle.std.proofs.lemmas.List.Splits.{slice_split_none, slice_split_at}
+use Rattle.std_laws.proofs.OptionLaws.{cond_none_parts}
 use Rattle.row_reader.specs.Rows.{Row, Rows, is_feed, is_blank, rows_of, rows_of_pieces}
 use Rattle.row_reader.specs.Fields.{parts_of, part_at, ended, IsCutOff}
 
--- ---- the first place of a byte
+-- ---- the first index of a byte
 
 -- what `&xs[i + 1..]` is
 abbrev behind : ℕ → List ℕ → List ℕ
 behind i xs = take (length xs - (i + 1)) (drop (i + 1) xs)
 
--- before its first place the byte doesn't stand
-before_place : (p : ℕ → Bool) (xs : List ℕ) (i : ℕ) → position p xs ≡ Some i → All (λ b. p b ≡ false) (take i xs)
-before_place p xs i e = λ k d lt.
+-- before its first index the byte doesn't stand
+before_index : (p : ℕ → Bool) (xs : List ℕ) (i : ℕ) → position p xs ≡ Some i → All (λ b. p b ≡ false) (take i xs)
+before_index p xs i e = λ k d lt.
     let at = position-Some p xs i d e in
     let fails = at.2 k (grind (arith, common_steps)) in
     grind (arith, common_steps)
 
-place_splits : (c : ℕ) (xs : List ℕ) (i : ℕ) → position (λ b. b == c) xs ≡ Some i → xs ≡ take i xs ++ c ∷ behind i xs
-place_splits c xs i e =
+index_splits : (c : ℕ) (xs : List ℕ) (i : ℕ) → position (λ b. b == c) xs ≡ Some i → xs ≡ take i xs ++ c ∷ behind i xs
+index_splits c xs i e =
     let at = position-Some (λ b. b == c) xs i 0 e in
     let next : suc i ≡ i + 1 = omega arith in
     sym (take-append-drop i xs) ∙ ap (λ (t : List ℕ). take i xs ++ t) (
@@ -36,14 +37,10 @@ place_splits c xs i e =
     ∙ ap (λ (t : List ℕ). c ∷ t) (sym (take_rest xs (i + 1)))
     )
 
-cond_none : (b : Bool) (x : ℕ) → cond b (Some x) None ≡ None → b ≡ false
-cond_none true x e = absurd cc
-cond_none false x e = refl
-
--- without a place the byte doesn't stand at all
-no_place : (p : ℕ → Bool) (xs : List ℕ) → position p xs ≡ None → All (λ b. p b ≡ false) xs
-no_place p xs e = λ k d lt.
-    let le = ltb-false _ _ (cond_none _ _ e) in
+-- without an index the byte doesn't stand at all
+no_index : (p : ℕ → Bool) (xs : List ℕ) → position p xs ≡ None → All (λ b. p b ≡ false) xs
+no_index p xs e = λ k d lt.
+    let le = ltb-false _ _ (cond_none_parts _ _ None e).0 in
     fails_before_first p xs k d (omega arith)
 
 -- ---- pieces
@@ -73,10 +70,10 @@ first_row line rest free =
     ∙ ap (λ r. parts_of line ∷ rows_of_pieces r) (sym p.2)
 
 pub row_is : (text : List ℕ) (i : ℕ) → position is_feed text ≡ Some i → rows_of text ≡ parts_of (take i text) ∷ rows_of (behind i text)
-row_is text i e = ap rows_of (place_splits 10 text i e) ∙ first_row (take i text) (behind i text) (before_place is_feed text i e)
+row_is text i e = ap rows_of (index_splits 10 text i e) ∙ first_row (take i text) (behind i text) (before_index is_feed text i e)
 
 pub text_is_whole : (text : List ℕ) (i : ℕ) → position is_feed text ≡ Some i → text ≡ take i text ++ codes "\n" ++ behind i text
-text_is_whole text i e = place_splits 10 text i e ∙ sym (append_assoc (take i text) (codes "\n") (behind i text))
+text_is_whole text i e = index_splits 10 text i e ∙ sym (append_assoc (take i text) (codes "\n") (behind i text))
 
 -- the row of nothing, or none
 last_piece : (piece : List ℕ) → IsCutOff (rows_of_pieces (piece ∷ [])) × (length (rows_of_pieces (piece ∷ [])) ≡ min 1 (length piece))
@@ -86,7 +83,7 @@ last_piece (b ∷ bs) = (tt, omega arith)
 -- no whole row is left, and at most one
 pub cut_none : (text : List ℕ) → position is_feed text ≡ None → IsCutOff (rows_of text) × (length (rows_of text) ≡ min 1 (length text))
 unfolding rows_of
-cut_none text e = rw (slice_split_none is_feed text (no_place is_feed text e)) (last_piece text)
+cut_none text e = rw (slice_split_none is_feed text (no_index is_feed text e)) (last_piece text)
 
 -- a text that isn't empty has a row
 first_piece : (b : Bool) (x : ℕ) (first : List ℕ) (others : List (List ℕ)) → (row : Row) × (more : Rows)
@@ -114,11 +111,11 @@ no_rows (x ∷ xs) h = absurd (omega arith)
 
 pub part_is : (row : List ℕ) (i : ℕ) → position is_blank row ≡ Some i → part_at (parts_of row) ≡ Some (take i row, parts_of (behind i row))
 part_is row i e =
-    ap (λ r. part_at (parts_of r)) (place_splits 32 row i e)
-    ∙ ap part_at (slice_split_at is_blank (take i row) 32 (behind i row) (before_place is_blank row i e) refl)
+    ap (λ r. part_at (parts_of r)) (index_splits 32 row i e)
+    ∙ ap part_at (slice_split_at is_blank (take i row) 32 (behind i row) (before_index is_blank row i e) refl)
 
 pub last_part_is : (row : List ℕ) → position is_blank row ≡ None → part_at (parts_of row) ≡ Some (row, [])
-last_part_is row e = ap part_at (slice_split_none is_blank row (no_place is_blank row e))
+last_part_is row e = ap part_at (slice_split_none is_blank row (no_index is_blank row e))
 
 -- a row that hasn't ended has a part
 pub not_ended : {X : Type 0} (x : X) (row : List ℕ) → ended x (parts_of row) ≡ None

@@ -3,13 +3,13 @@
 use Rattle.std.proofs.Common.{◌≡◌, ℕ, Bool, true, false, cond, List, [], ◌∷◌, ◌++◌, map, Option, Some, None, Result, Ok, Err, refl, sym, ap}
 use Rattle.std.proofs.Common.{subst, ◌∙◌, append_assoc, inl, inr}
 use Rattle.std.proofs.lemmas.Bool.{both_ways, cases_Bool}
-use Rattle.std.proofs.lemmas.Option.{same_Some}
+use Rattle.std.proofs.lemmas.Option.{same_Some, none-some}
 use Rattle.row_reader.specs.Rows.{Row, Rows}
 use Rattle.kmp_base.specs.Bind.{◌>>=◌}
 use Rattle.kmp_base.proofs.ReadingLaws.{bind_ok, bind_err}
 use Rattle.row_reader.specs.Reading.{chosen, many_at, each_at}
 use Rattle.row_reader.specs.Starts.{Stops, IsPart, AreFit, EachFits, each_spell}
-use Rattle.row_reader.proofs.PartLaws.{done, ok_parts, chosen_ok, chosen_err, none_some, head_is, tail_is, then_read, given_fits}
+use Rattle.row_reader.proofs.PartLaws.{done, ok_parts, chosen_ok, chosen_err, head_is, tail_is, then_read, given_fits}
 use Rattle.row_reader.proofs.PartLaws.{StopsBefore, IsPartBefore, part_before, then_part_before, then_part}
 
 -- ---- a part in other words
@@ -220,7 +220,7 @@ module _ {X : Type 0} (FitsAt : ℕ → X → Type 0) (line : X → Row) (test :
   conflict [] [] low row here there fx fy other passes not e =
       both_ways (test row) (ap test (head_is row other.first here other.others (e ∙ other.are)) ∙ other.fails) passes
   conflict [] (y ∷ ys) low row here there fx fy other passes not e =
-      none_some y (one low row) not (ap (one low) (head_is row (line y) here (map line ys ++ there) e) ∙ law.again low y fy.0)
+      none-some y (sym not ∙ ap (one low) (head_is row (line y) here (map line ys ++ there) e) ∙ law.again low y fy.0)
   conflict (x ∷ xs) [] low row here there fx fy other passes not e =
       both_ways (test (line x)) (ap test (head_is (line x) other.first (map line xs ++ row ∷ here) other.others (e ∙ other.are))
       ∙ other.fails) (law.pass low x fx.0)

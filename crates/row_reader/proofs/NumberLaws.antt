@@ -10,7 +10,7 @@ use Rattle.std.specs.Str.Parse.{digits_value}
 use Rattle.std.proofs.lemmas.Slice.Eq.{bytes_eq-Decides}
 use Rattle.std.proofs.lemmas.Option.{cond_some}
 use Rattle.std.proofs.lemmas.Fmt.{decimal_is_IsNumeral}
-use Rattle.std.proofs.lemmas.Bool.{and_from, and_parts, leb-true, le-leb}
+use Rattle.std.proofs.lemmas.Bool.{and_from, and_parts, leb-true, le-leb, false_from_ne_true}
 use Rattle.std.proofs.lemmas.Nat.{be_bytes_4, from_be_bytes-to_be_bytes_4}
 use Rattle.hex.specs.Hex.{IsBytes, encode_lower, decode_sized, lower_digits}
 use Rattle.hex.specs.declared.error.FromHexError.{FromHexError}
@@ -20,12 +20,6 @@ use Rattle.row_reader.specs.Numbers.{if_spelled, number_of, AreBytes, if_bytes, 
 use Rattle.row_reader.specs.Numbers.{exactly}
 use Rattle.row_reader.specs.Fields.{◌>>=◌}
 use Rattle.row_reader.proofs.FieldLaws.{IsField, some_is, bind_some}
-
-pub same_text : (a b : List ℕ) → bytes_eq a b ≡ true → a ≡ b
-same_text a b e = (bytes_eq-Decides a b).0 e
-
-pub equal_text : (a : List ℕ) → bytes_eq a a ≡ true
-equal_text a = (bytes_eq-Decides a a).1 refl
 
 some_if : {X : Type 0} (b : Bool) (x : X) → b ≡ true → cond b (Some x) None ≡ Some x
 some_if true x e = refl
@@ -38,11 +32,11 @@ unfolding number_of
 number_found limit text n e =
     let c = cond_some _ (digits_value 10 text) n e in
     let both = and_parts _ _ c.0 in
-    (subst (λ k. k ≤ limit) c.1 (leb-true _ _ both.0), same_text _ _ both.1 ∙ ap decimal c.1)
+    (subst (λ k. k ≤ limit) c.1 (leb-true _ _ both.0), (bytes_eq-Decides _ _).0 both.1 ∙ ap decimal c.1)
 
 spelled_again : (limit n k : ℕ) → n ≤ limit → k ≡ n → if_spelled limit (decimal n) k ≡ Some n
 spelled_again limit n k le is =
-    ap (if_spelled limit (decimal n)) is ∙ some_if _ n (and_from _ _ (le-leb n limit le) (equal_text (decimal n)))
+    ap (if_spelled limit (decimal n)) is ∙ some_if _ n (and_from _ _ (le-leb n limit le) ((bytes_eq-Decides (decimal n) (decimal n)).1 refl))
 
 pub number_again : (limit n : ℕ) → limit < 2 ^ 64 → n ≤ limit → number_of limit (decimal n) ≡ Some n
 unfolding number_of
@@ -77,7 +71,7 @@ if_bytes_found : (size : ℕ) (text : List ℕ) (r : Result (List ℕ) FromHexEr
     → AreBytes size bytes × (text ≡ encode_lower bytes)
 if_bytes_found size text (Ok guess) bytes is e =
     let c = cond_some _ guess bytes e in
-    (subst (AreBytes size) c.1 (decoded_are size text guess is), same_text _ _ c.0 ∙ ap encode_lower c.1)
+    (subst (AreBytes size) c.1 (decoded_are size text guess is), (bytes_eq-Decides _ _).0 c.0 ∙ ap encode_lower c.1)
 if_bytes_found size text (Err fault) bytes is e = absurd cc
 
 pub bytes_found : (size : ℕ) (text bytes : List ℕ) → bytes_of size text ≡ Some bytes → AreBytes size bytes × (text ≡ encode_lower bytes)
@@ -88,7 +82,7 @@ pub bytes_again : (size : ℕ) (bytes : List ℕ) → AreBytes size bytes → by
 unfolding bytes_of
 bytes_again size bytes are =
     ap (if_bytes (encode_lower bytes)) (decode_sized-encode_lower bytes size are.0 (each_byte bytes are.1))
-    ∙ some_if _ bytes (equal_text (encode_lower bytes))
+    ∙ some_if _ bytes ((bytes_eq-Decides (encode_lower bytes) (encode_lower bytes)).1 refl)
 
 pub bytes_field : (size : ℕ) → IsField (AreBytes size) encode_lower (bytes_of size)
 bytes_field size = record { found = bytes_found size; again = bytes_again size }
@@ -147,22 +141,18 @@ option_word_found text None x is e = absurd cc
 
 optional_found' : (text : List ℕ) (b : Bool) (x : Option ℕ) → bytes_eq text dash ≡ b → optional_chosen b (word_of text) ≡ Some x
     → IfSome x IsWord × (text ≡ word_or_dash x)
-optional_found' text true x is e = subst (λ y. IfSome y IsWord × (text ≡ word_or_dash y)) (some_is None x e) (tt, same_text text dash is)
+optional_found' text true x is e = subst (λ y. IfSome y IsWord × (text ≡ word_or_dash y)) (some_is None x e) (tt, (bytes_eq-Decides text dash).0 is)
 optional_found' text false x is e = option_word_found text (word_of text) x refl e
 
 pub optional_found : (text : List ℕ) (x : Option ℕ) → optional_word_of text ≡ Some x → IfSome x IsWord × (text ≡ word_or_dash x)
 unfolding optional_word_of
 optional_found text x e = optional_found' text (bytes_eq text dash) x refl e
 
-not_true : (b : Bool) → (b ≡ true → ⊥) → b ≡ false
-not_true true h = absurd (h refl)
-not_true false h = refl
-
 -- the text of a word isn't a dash
 word_not_dash : (n : ℕ) → bytes_eq (hex8 n) dash ≡ false
-word_not_dash n = not_true _ (λ e.
+word_not_dash n = false_from_ne_true _ (λ e.
     let long : length (hex8 n) ≡ 8 = length-encode_with lower_digits (to_be_bytes w32 n) in
-    let short : length (hex8 n) ≡ 1 = ap length (same_text (hex8 n) dash e) in
+    let short : length (hex8 n) ≡ 1 = ap length ((bytes_eq-Decides (hex8 n) dash).0 e) in
     absurd (omega arith))
 
 pub optional_again : (x : Option ℕ) → IfSome x IsWord → optional_word_of (word_or_dash x) ≡ Some x
@@ -178,11 +168,11 @@ optional_field = record { found = optional_found; again = optional_again }
 
 pub exactly_found : (name text : List ℕ) (x : Unit {0}) → exactly name text ≡ Some x → Unit {0} × (text ≡ name)
 unfolding exactly
-exactly_found name text x e = (tt, same_text text name (cond_some _ tt x e).0)
+exactly_found name text x e = (tt, (bytes_eq-Decides text name).0 (cond_some _ tt x e).0)
 
 pub exactly_again : (name : List ℕ) → exactly name name ≡ Some tt
 unfolding exactly
-exactly_again name = some_if _ tt (equal_text name)
+exactly_again name = some_if _ tt ((bytes_eq-Decides name name).1 refl)
 
 pub exactly_field : (name : List ℕ) → IsField (λ (x : Unit {0}). Unit {0}) (λ x. name) (exactly name)
 exactly_field name = record { found = exactly_found name; again = λ x fits. exactly_again name }

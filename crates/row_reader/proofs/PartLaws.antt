@@ -1,6 +1,7 @@
 -- A part of one row, and a part with what follows it.
 use Rattle.std.proofs.Common.{◌≡◌, [], ◌∷◌, ◌++◌, Option, Some, None, Result, Ok, Err, refl, sym, ap, subst, ◌∙◌, append_assoc, inl, inr}
 use Rattle.std.proofs.lemmas.List.{append-nil}
+use Rattle.std.proofs.lemmas.Option.{none-some}
 use Rattle.row_reader.specs.Rows.{Row, Rows}
 use Rattle.kmp_base.specs.Bind.{◌>>=◌}
 use Rattle.kmp_base.proofs.ReadingLaws.{bind_ok, bind_err}
@@ -47,9 +48,6 @@ pub chosen_err : {X : Type 0} (o : Option X) (row : Row) (rows stuck : Rows) →
 chosen_err (Some y) row rows stuck e = absurd cc
 chosen_err {X} None row rows stuck e = (refl, err_is (X × Rows) (row ∷ rows) stuck e)
 
-pub none_some : {X : Type 0} (x : X) (o : Option X) → o ≡ None → o ≡ Some x → ⊥
-none_some x o p q = cc
-
 pub head_is : (a b : Row) (xs ys : Rows) → a ∷ xs ≡ b ∷ ys → a ≡ b
 head_is a b xs ys e = cc
 
@@ -81,7 +79,7 @@ row_stops {X} Fits line one law some (row ∷ rows) stuck e =
       ends = λ other more is agrees.
           let same : row ≡ other = head_is row other rows more (p.1 ∙ is) in
           let spelled : other ≡ line agrees.value = head_is other (line agrees.value) agrees.here agrees.there agrees.are in
-          none_some agrees.value (one row) p.0 (ap one (same ∙ spelled) ∙ law.again agrees.value agrees.fits);
+          none-some agrees.value (sym p.0 ∙ ap one (same ∙ spelled) ∙ law.again agrees.value agrees.fits);
     }
 
 -- A row is a part. The value stands where the row is missing.

@@ -1,8 +1,7 @@
 -- Which parts are plain: a literal by a test, and the spellings of values.
-use Rattle.std.proofs.Common.{◌≡◌, ℕ, zero, suc, ◌/◌, ◌%◌, ◌^◌, ◌<◌, Bool, true, false, ◌&&◌, List, [], ◌∷◌, ◌++◌, Option, Some, None}
+use Rattle.std.proofs.Common.{◌≡◌, ℕ, zero, suc, ◌/◌, ◌%◌, ◌^◌, ◌<◌, Bool, true, false, ◌&&◌, List, [], ◌∷◌, Option, Some, None}
 use Rattle.std.proofs.Common.{get_or, refl, arith, decimal}
 use Rattle.std.specs.Prelude.{not}
-use Rattle.std.specs.List.{AllByRecursion}
 use Rattle.std.specs.Int.{w32, to_be_bytes}
 use Rattle.std.specs.Str.Parse.{AllDigits}
 use Rattle.std.proofs.lemmas.Bool.{and_parts, ne_eqb, not-true}
@@ -59,9 +58,3 @@ hex8_plain n = bytes_plain (to_be_bytes w32 n)
 pub word_or_dash_plain : (x : Option ℕ) → IsPlain (word_or_dash x)
 word_or_dash_plain None = plain_by_test (word_or_dash None) refl
 word_or_dash_plain (Some n) = hex8_plain n
-
--- ---- what holds of two lists holds of both behind each other
-
-pub all_append : {X : Type 0} (P : X → Type 0) (xs ys : List X) → AllByRecursion P xs → AllByRecursion P ys → AllByRecursion P (xs ++ ys)
-all_append P [] ys h k = k
-all_append P (x ∷ xs) ys h k = (h.0, all_append P xs ys h.1 k)

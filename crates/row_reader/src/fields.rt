@@ -97,21 +97,6 @@ pub fn optional_word(parts: Parts) -> Option<(Option<u32>, Parts)>
     field(parts, optional_word_of)
 }
 
-/// Reads the next part as bytes in hexadecimal, as many as `into` holds (at most 32), and gives what
-/// is left behind it. At `None`, what `into` then holds is not specified.
-pub fn bytes<'a>(parts: Parts<'a>, into: &mut [u8]) -> Option<Parts<'a>>
-    requires { length into.old ≤ 32 }
-    ensures found { Finds (λ rest. (into.new, parts_left (option_copied rest))) result (field_at (bytes_of (length into.old)) (parts_left (option_copied parts.entry))) }
-    ensures size { length into.new ≡ length into.old }
-{
-    let (text, rest) = part(parts)?;
-    if bytes_of(text, into) {
-        Some(rest)
-    } else {
-        None
-    }
-}
-
 /// What is left behind the next part, if this is `name`.
 #[tactic(auto, unfolding(crate::specs::Numbers::exactly))]
 pub fn name<'a>(parts: Parts<'a>, name: &[u8]) -> Option<((), Parts<'a>)>

@@ -15,7 +15,6 @@ mod fields;
 mod rows;
 
 pub use fields::{
-    bytes, bytes_of, ended, field, name, number, number_of, optional_word, optional_word_of, word,
-    word_of,
+    bytes_of, ended, field, name, number, number_of, optional_word, optional_word_of, word, word_of,
 };
 pub use rows::{Parts, Stuck, cut_row, named_row, part, row_count};

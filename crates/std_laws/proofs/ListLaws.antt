@@ -1,12 +1,13 @@
 -- An element of a list by its index, and what holds of each element.
 use Rattle.std.proofs.Common.{◌≡◌, ◌≢◌, ◌⊎◌, ℕ, zero, suc, ◌+◌, ◌<◌, List, [], ◌∷◌, ◌++◌, length, drop, refl, ap, sym, subst, ◌∙◌, arith}
-use Rattle.std.proofs.Common.{inl, inr, zero-add, ◌*◌, take, get_or, Bool, true, false, cond}
+use Rattle.std.proofs.Common.{inl, inr, zero-add, ◌*◌, take, get_or, Bool, true, false, cond, append_assoc, length-append}
 use Rattle.std.specs.Prelude.{Some, slice_get, slice_set}
 use Rattle.std.specs.List.{AllByRecursion, list_all, count_by, flat_map}
 use Rattle.std.proofs.lemmas.Bool.{cases_eq, and_parts}
 use Rattle.std.proofs.lemmas.Option.{none-some, same_Some, get_or_from_slice_get, slice_get_within}
-use Rattle.std.proofs.lemmas.List.{set-get_or, drop_more, take_more, drop-drop, drop_all, drop_at, take_all, take_at}
+use Rattle.std.proofs.lemmas.List.{set-get_or, drop_more, take_more, drop-drop, drop_all, drop_at, take_all, take_at, flat_map_more}
 use Rattle.std.proofs.Math.Nat.{suc-add}
+use Rattle.std.proofs.lemmas.List.Concat.{flat_map-append}
 use Rattle.std.proofs.lemmas.List.Folds.{list_all-append}
 use Rattle.std.proofs.lemmas.List.Sums.{sum_by-cons}
 use Rattle.std.proofs.Math.Seq.{take-add}
@@ -148,6 +149,10 @@ list_all-weaker p q implied (x ∷ xs) all =
     let each = and_parts (p x) (list_all p xs) all in
     rw (implied x each.0) (list_all-weaker p q implied xs each.1)
 
+pub list_all-from_recursion : {X : Type 0} (p : X → Bool) (xs : List X) → AllByRecursion (λ x. p x ≡ true) xs → list_all p xs ≡ true
+list_all-from_recursion p [] each = refl
+list_all-from_recursion p (x ∷ xs) each = rw each.0 (list_all-from_recursion p xs each.1)
+
 pub list_all_both : {X : Type 0} (p : X → Bool) (xs ys : List X) → list_all p xs ≡ true → list_all p ys ≡ true
     → list_all p (xs ++ ys) ≡ true
 list_all_both p xs ys first second = rw (list_all-append p xs ys, first, second) refl
@@ -155,7 +160,25 @@ list_all_both p xs ys first second = rw (list_all-append p xs ys, first, second)
 pub count_by-cons : {X : Type 0} (p : X → Bool) (x : X) (xs : List X) → count_by p (x ∷ xs) ≡ cond (p x) 1 0 + count_by p xs
 count_by-cons {X = X} p x xs = sum_by-cons (λ (y : X). cond (p y) 1 0) x xs
 
--- ---- a list in pieces of one length
+-- ---- a piece for each element, one behind another
+
+pub flat_map_around : {X A : Type 0} (f : X → List A) (xs : List X) (x : X) (ys : List X)
+    → flat_map f (xs ++ x ∷ ys) ≡ (flat_map f xs ++ f x) ++ flat_map f ys
+flat_map_around f xs x ys = flat_map-append f xs (x ∷ ys) ∙ sym (append_assoc (flat_map f xs) (f x) (flat_map f ys))
+
+pub flat_map-take_more : {X A : Type 0} (f : X → List A) (xs : List X) (i : ℕ) (d : X) → i < length xs
+    → flat_map f (take (i + 1) xs) ≡ flat_map f (take i xs) ++ f (get_or xs i d)
+flat_map-take_more f xs i d below =
+    ap (flat_map f) (take_more xs i d below) ∙ sym (flat_map_more f [] (take i xs) (get_or xs i d))
+
+-- ---- pieces of one length
+
+pub length-flat_map_same : {X A : Type 0} (f : X → List A) (n : ℕ) → ((x : X) → length (f x) ≡ n) → (xs : List X)
+    → length (flat_map f xs) ≡ n * length xs
+length-flat_map_same f n long [] = omega arith
+length-flat_map_same f n long (x ∷ xs) =
+    let next : n * suc (length xs) ≡ n + n * length xs = omega arith in
+    omega (arith, next, length-append (f x) (flat_map f xs), long x, length-flat_map_same f n long xs)
 
 pub drop-drop_multiple : {X : Type 0} (n k : ℕ) (xs : List X) → drop n (drop (n * k) xs) ≡ drop (n * (k + 1)) xs
 drop-drop_multiple n k xs =

@@ -1,7 +1,8 @@
 -- Options that are made of others.
-use Rattle.std.proofs.Common.{◌≡◌, refl, sym}
+use Rattle.std.proofs.Common.{◌≡◌, ℕ, List, ◌++◌, refl, sym, ap, append_assoc}
 use Rattle.std.specs.Prelude.{Bool, true, false, cond, Option, Some, None, is_some}
 use Rattle.std.specs.Option.{option_and_then, option_map, option_flatten, unwrap_or, option_len}
+use Rattle.std.specs.Io.KnownBytes.{append_known, prepend_known}
 use Rattle.std.proofs.lemmas.Option.{none-some, same_Some}
 
 -- ---- one after another
@@ -65,3 +66,14 @@ cond_some-comm first true x y o apart = rw (apart refl) refl
 pub option_len-map : {A B : Type 0} (f : A → B) (o : Option A) → option_len (option_map f o) ≡ option_len o
 option_len-map f None = refl
 option_len-map f (Some x) = refl
+
+-- ---- bytes that may be known
+
+pub append_known-append : (known : Option (List ℕ)) (a b : List ℕ) → append_known (append_known known a) b ≡ append_known known (a ++ b)
+append_known-append None a b = refl
+append_known-append (Some xs) a b = ap Some (append_assoc xs a b)
+
+pub prepend_known-prepend : (known : Option (List ℕ)) (a b : List ℕ)
+    → prepend_known a (prepend_known b known) ≡ prepend_known (a ++ b) known
+prepend_known-prepend None a b = refl
+prepend_known-prepend (Some xs) a b = ap Some (sym (append_assoc a b xs))

@@ -2,7 +2,7 @@
 //! crates.
 //!
 //! The laws that other crates cite:
-//! - `proofs/ListLaws`: an element by its index, what holds of each element, a list that is split.
-//! - `proofs/OptionLaws`: what an option is made of.
+//! - `proofs/ListLaws`: an element by its index, what holds of each element, a list of pieces, a list that is split.
+//! - `proofs/OptionLaws`: what an option is made of, bytes that may be known.
 //! - `proofs/NumberLaws`: multiples of a number.
 #![tactic(auto)]

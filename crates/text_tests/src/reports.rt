@@ -2,7 +2,8 @@
 use access_log::{History, Item, Letter, Transaction};
 use image_file::read_image;
 use kmp_base::{Collected, MachineKind, MemorySink, Policy, Setup, Turns};
-use report_text::{Counts, NoMemory, Report, print_report};
+use report_print::print_report;
+use report_text::{Counts, NoMemory, Report};
 use std::alloc::Global;
 use std::test::Fail;
 

@@ -1,7 +1,8 @@
 -- From the lock to the pass: what a pass may do with the memory that it holds, and what it has seen once it let go.
-use Rattle.std.proofs.Common.{◌≡◌, ℕ, ◌+◌, ◌<◌, List, [], ◌∷◌, length, Some, None, get_or, sym, refl, ap, ◌∙◌, subst}
+use Rattle.std.proofs.Common.{◌≡◌, ℕ, ◌+◌, ◌<◌, List, [], ◌∷◌, length, Some, None, get_or, sym, refl, ap, ◌∙◌, subst, arith}
 use Rattle.atomic_table.specs.Table.{Me, rest}
 use Rattle.mem_port.specs.declared.memory.MemoryCore.{Ghosts}
+use Rattle.mem_port.specs.declared.port.Port.TheVariants.{Fetch, Access}
 use Rattle.mem_port.specs.Calls.{Call}
 use Rattle.mem_port.specs.Memory.{Keeps}
 use Rattle.turn.specs.declared.views.CoreView.{CoreView}
@@ -9,12 +10,12 @@ use Rattle.turn.specs.declared.views.PassView.{PassView}
 use Rattle.turn.specs.declared.counted.Counted.{Counted}
 use Rattle.turn.specs.declared.pass.Turn.{Turn}
 use Rattle.turn.specs.declared.pass.Pass.{Pass}
-use Rattle.turn.specs.Views.{CountedView, CoreFits, LeavesCores, core_view}
+use Rattle.turn.specs.Views.{CountedView, CoreFits, LeavesCores, core_view, asks_of}
 use Rattle.turn.specs.Rule.{own_core, joined_cores, Releases, pass_view, Event, IsCaused, moves_in, with_event, counts_of}
 use Rattle.turn.specs.Holding.{HasTurn, MayRelease}
 use Rattle.turn.specs.Counting.{seen, IsCounted}
 use Rattle.turn.specs.Passes.{event_of, first_view, own, IsOf, HasMade}
-use Rattle.turn.proofs.CallLaws.{Leads, call-leaves, call-caused, event-moves}
+use Rattle.turn.proofs.CallLaws.{Leads, call-leaves, call-asked, call-caused, event-moves}
 
 module _ {S : Type 0} {view : S → CountedView} where
   -- The memory in the slot is the one that was taken.
@@ -103,6 +104,13 @@ module _ {M : Type 0} {g : Ghosts M} (turn : Turn M g) (old : Pass M g) (of : Is
         let caused = call-caused old.core (seen m) (seen n) call leads made.numbers in
         let shows : own new ≡ core_view (seen n) old.core =
         ap (λ (x : PassMe g). own_core x.0.cores) is ∙ ap (λ (c : ℕ). core_view (seen n) c) old.named in
+        let fetch : (own old).fetch.asked ≡ (seen m).numbers.asked (Fetch old.core) =
+        fit.0.fetch.asked ∙ ap (λ (c : ℕ). (seen m).numbers.asked (Fetch c)) old.named in
+        let access : (own old).access.asked ≡ (seen m).numbers.asked (Access old.core) =
+        fit.0.access.asked ∙ ap (λ (c : ℕ). (seen m).numbers.asked (Access c)) old.named in
+        let asks : asks_of (own new) ≡ (seen n).numbers.asked (Fetch old.core) + (seen n).numbers.asked (Access old.core) =
+        ap (λ (v : CoreView). asks_of v) shows in
+        let asked = call-asked old.core (seen m) (seen n) call leads made.numbers in
         let was : (own old).moved ≡ (seen m).numbers.moved old.core =
         fit.0.moved ∙ ap (λ (c : ℕ). (seen m).numbers.moved c) old.named in
         record {
@@ -110,6 +118,7 @@ module _ {M : Type 0} {g : Ghosts M} (turn : Turn M g) (old : Pass M g) (of : Is
           core = core;
           joined = ap (λ (x : PassMe g). joined_cores x.0.cores) is;
           counts_are = ap (λ (x : PassMe g). counts_of x.0) is;
+          asked = omega (arith, fetch, access, asks, asked);
           moved = ap (λ (v : CoreView). v.moved) shows ∙ (caused.moved ∙ (ap (λ (k : ℕ). k + moves_in (event_of call)) (sym was)
               ∙ ap (λ (k : ℕ). (own old).moved + k) (event-moves call)));
           taken = m;

@@ -1,7 +1,8 @@
--- What a call for a core leaves of the other cores and of their numbers, and what causes its answer.
+-- What a call for a core leaves of the other cores and of their numbers, what it asks, and what causes its answer.
 use Rattle.std.proofs.Common.{◌≡◌, ◌≢◌, ℕ, ◌+◌, Some, None, refl, sym, ap, ◌∙◌, subst, arith, eq-eqb, ne_eqb}
 use Rattle.access_log.specs.declared.request.Request.{Request}
 use Rattle.mem_port.specs.declared.port.Port.{Port}
+use Rattle.mem_port.specs.declared.port.Port.TheVariants.{Fetch, Access}
 use Rattle.mem_port.specs.declared.port.Moved.TheVariants as moved
 use Rattle.mem_port.specs.declared.port.Withdrawal.TheVariants as withdrawal
 use Rattle.mem_port.specs.Calls.{Call, Ask, Serve, Step, Take, Withdraw}
@@ -9,11 +10,11 @@ use Rattle.mem_port.specs.Ports.{core_of}
 use Rattle.mem_port.specs.Memory.{MemoryView, Asks, Serves, Steps, Takes, Withdraws}
 use Rattle.mem_port.specs.Side.{LeavesOthers}
 use Rattle.mem_port.proofs.SideLaws.{asks-leaves, serves-leaves, steps-leaves, takes-leaves, withdraws-leaves}
-use Rattle.turn.specs.Numbers.{with_step, with_call}
+use Rattle.turn.specs.Numbers.{with_ask, with_step, with_call}
 use Rattle.turn.specs.Views.{CountedView, LeavesCores}
 use Rattle.turn.specs.Rule.{IsCaused, moves_in}
-use Rattle.turn.specs.Passes.{event_of, moves_of}
-use Rattle.turn.proofs.NumberLaws.{port-other}
+use Rattle.turn.specs.Passes.{event_of, requests_of, moves_of}
+use Rattle.turn.proofs.NumberLaws.{port-other, asked-once}
 
 -- A core's call led from one memory to another, by the law.
 abbrev pub Leads : ℕ → Call → MemoryView → MemoryView → Type 0
@@ -63,6 +64,27 @@ module _ (core : ℕ) (x y : CountedView) where
   call-leaves (Take p result) h n = same-numbers (leaves-at p core x.memory y.memory h.0 (takes-leaves result p x.memory y.memory h.1)) n
   call-leaves (Withdraw p result) h n =
       same-numbers (leaves-at p core x.memory y.memory h.0 (withdraws-leaves result p x.memory y.memory h.1)) n
+
+  asked-same : y.numbers.asked ≡ x.numbers.asked
+      → y.numbers.asked (Fetch core) + y.numbers.asked (Access core) ≡ x.numbers.asked (Fetch core) + x.numbers.asked (Access core) + 0
+  asked-same n = let f = ap (λ z. z (Fetch core)) n in let a = ap (λ z. z (Access core)) n in omega (arith, f, a)
+
+  -- The requests that the core asks.
+  pub call-asked : (call : Call) → Leads core call x.memory y.memory → y.numbers ≡ with_call call core x.memory x.numbers
+      → y.numbers.asked (Fetch core) + y.numbers.asked (Access core)
+      ≡ x.numbers.asked (Fetch core) + x.numbers.asked (Access core) + requests_of call
+  call-asked (Ask p r) h n =
+      let P : ℕ → Type 0 = λ c. (with_ask p x.numbers).asked (Fetch c) + (with_ask p x.numbers).asked (Access c)
+      ≡ x.numbers.asked (Fetch c) + x.numbers.asked (Access c) + 1 in
+      let once = subst P h.0 (asked-once p x.numbers.asked) in
+      let f = ap (λ z. z.asked (Fetch core)) n in
+      let a = ap (λ z. z.asked (Access core)) n in
+      omega (arith, once, f, a)
+  call-asked (Serve p) h n = asked-same (ap (λ z. z.asked) n)
+  call-asked (Step choice moved.Moved) h n = asked-same (ap (λ z. z.asked) n)
+  call-asked (Step choice moved.Idle) h n = asked-same (ap (λ z. z.asked) n)
+  call-asked (Take p result) h n = asked-same (ap (λ z. z.asked) n)
+  call-asked (Withdraw p result) h n = asked-same (ap (λ z. z.asked) n)
 
   moved-same : y.numbers.moved ≡ x.numbers.moved → y.numbers.moved core ≡ x.numbers.moved core + 0
   moved-same n = let e = ap (λ z. z core) n in omega (arith, e)

@@ -8,7 +8,6 @@ use Rattle.std.proofs.Math.Nat.{le-mul_of_pos_right, mul-le-mul_left}
 use mathlib.Core.Option.{some, some-injective}
 use lib.ListN.{get_elem?}
 use Rattle.std_laws.proofs.ListLaws.{AllByRecursion-slice_get}
-use Rattle.access_log.specs.declared.Entry.{Entry}
 use Rattle.access_log.specs.Items.{own_items}
 use Rattle.mem_port.specs.declared.port.Port.{Port}
 use Rattle.mem_port.specs.declared.port.Port.TheVariants.{Fetch, Access}
@@ -16,7 +15,8 @@ use Rattle.mem_port.specs.declared.port.PortState.{PortState}
 use Rattle.mem_port.specs.declared.port.PortState.TheVariants.{Free, Asked, Waiting, Answered, Closed}
 use Rattle.mem_port.specs.Ports.{core_of, IsAtRest, taken_of}
 use Rattle.mem_port.specs.Memory.{MemoryView, Keeps, steps_of_request}
-use Rattle.mem_port.specs.Side.{Evolves}
+use Rattle.mem_port.proofs.PortLaws.{rest-taken}
+use Rattle.mem_port.proofs.SideLaws.{rest-evolves}
 use Rattle.turn.specs.declared.views.CoreView.{CoreView}
 use Rattle.turn.specs.Numbers.{all_asked, IsPaid}
 use Rattle.turn.specs.Views.{CountedView, CoreFits, CoresFit, port_in, open_on, open_of, asks_of}
@@ -70,23 +70,12 @@ core-rests v (Access c) h = not-open v.access.state (omega (arith, h))
 
 -- Where no request is open, ports are as they were seen, and what was taken is all that the history has.
 
-rest-same : (a b : PortState) → Evolves a b → IsAtRest a → b ≡ a
-rest-same a b (inl e) h = e
-rest-same a b (inr s) h = let P : PortState → Type 0 = λ z. IsAtRest z in absurd (subst P s.1.1.0 h)
-
-rest-taken : (a : PortState) (own : List Entry) → IsAtRest a → taken_of a own ≡ own
-rest-taken Free own h = refl
-rest-taken (Asked r) own h = absurd h
-rest-taken (Waiting r) own h = absurd h
-rest-taken (Answered r word) own h = absurd h
-rest-taken Closed own h = refl
-
 module _ (y : CountedView) (vs : List CoreView) (fits : CoresFit y vs) (none : total open_of vs ≡ 0) where
   pub rest-own : (i : ℕ) (v : CoreView) → slice_get vs i ≡ Some v → own_items y.memory.history v.core ≡ v.entries
   rest-own i v got =
       let f = AllByRecursion-slice_get (CoreFits y) vs i v fits got in
       let h = core-rests v (Access v.core) (open-each vs i v none got) in
-      let same = rest-same v.access.state (y.memory.port (Access v.core)) f.access.state h in
+      let same = rest-evolves f.access.state h in
       let A : PortState → Type 0 = λ z. taken_of z (own_items y.memory.history v.core) ≡ own_items y.memory.history v.core in
       sym (subst A (sym same) (rest-taken v.access.state (own_items y.memory.history v.core) h)) ∙ sym f.entries
 
@@ -95,7 +84,7 @@ module _ (y : CountedView) (vs : List CoreView) (fits : CoresFit y vs) (none : t
       let t = is-among vs (core_of q) spoken in let v : CoreView = t.1.0 in
       let f = AllByRecursion-slice_get (CoreFits y) vs t.0 v fits t.1.1.0 in
       let h = core-rests v q (open-each vs t.0 v none t.1.1.0) in
-      let same = rest-same (port_in v q).state (y.memory.port q) (fits-port y v q (sym t.1.1.1) f).state h in
+      let same = rest-evolves (fits-port y v q (sym t.1.1.1) f).state h in
       let A : PortState → Type 0 = λ z. IsAtRest z in subst A (sym same) h
 
 -- The requests of cores that are all spoken for.

@@ -1,5 +1,5 @@
 -- What a call does to a core's side, as it was seen before the call and after it.
-use Rattle.std.proofs.Common.{◌≡◌, ◌≢◌, ℕ, ◌+◌, ◌-◌, ◌<◌, ◌≤◌, true, IsTrue, List, [], ◌++◌, refl, sym, ap, ◌∙◌, subst, inl, inr, arith}
+use Rattle.std.proofs.Common.{◌≡◌, ◌≢◌, ℕ, ◌+◌, ◌-◌, ◌<◌, ◌≤◌, ◌⊎◌, inl, inr, ⊎_elim, true, IsTrue, List, [], ◌++◌, refl, sym, ap, ◌∙◌, subst, arith}
 use Rattle.std.proofs.Common.{rules, Option, Some, None, eq-eqb}
 use Rattle.std.specs.Prelude.{◌==◌, ◌&&◌, if◌then◌else◌}
 use Rattle.image_file.specs.Value.{ImageValue}
@@ -13,17 +13,18 @@ use Rattle.mem_port.specs.declared.port.Moved.{Moved}
 use Rattle.mem_port.specs.declared.port.Moved.TheVariants as moved
 use Rattle.mem_port.specs.declared.port.Withdrawal.{Withdrawal}
 use Rattle.mem_port.specs.declared.port.Withdrawal.TheVariants as withdrawal
-use Rattle.mem_port.specs.Ports.{core_of, MayAsk, IsWaiting, IsServed, IsOpen, IsUnanswered, entries_of}
+use Rattle.mem_port.specs.Ports.{core_of, MayAsk, IsWaiting, IsServed, IsOpen, entries_of}
 use Rattle.mem_port.specs.Memory.{MemoryView, IsLawful, Keeps, Asks, Serves, Steps, Takes, Withdraws, committed}
 use Rattle.mem_port.specs.Side.{PortPhase, Served, port_phase, Holds, Evolves, KeepsSide, LeavesPort, SideAsks, SideServes, SideSteps}
 use Rattle.mem_port.specs.Side.{SideLeaves, SideWaits, SideTakes, SideWithdraws, IsAnswer, side_of, remaining_wait_of}
-use Rattle.mem_port.proofs.SideLaws.{port_phase-evolves, evolves-twice, serves-side, steps-side}
+use Rattle.mem_port.proofs.SideLaws.{port_phase-evolves, port_phase-served, port_phase-open, waiting_along, still_waiting, still_unanswered}
+use Rattle.mem_port.proofs.SideLaws.{evolves-twice, remaining_wait-falls, remaining_wait-within, asks-side, serves-side, steps-side}
+use Rattle.mem_port.proofs.SideLaws.{takes-side, withdraws-side}
 use Rattle.turn.specs.declared.views.PortView.{PortView}
 use Rattle.turn.specs.declared.views.CoreView.{CoreView}
 use Rattle.turn.specs.Numbers.{with_ask, with_serve, with_step, waits, IsHelped}
 use Rattle.turn.specs.Views.{CountedView, PortFits, CoreFits, port_in, port_view, core_view, side_in}
-use Rattle.turn.proofs.NumberLaws.{waiting-along, still-waiting, true-along, waits-waiting, port-other}
-use Rattle.turn.proofs.SideLaws.{asks-side, takes-side, withdraws-side}
+use Rattle.turn.proofs.NumberLaws.{waits-waiting, waits-cases, port-other}
 
 -- What was seen of a port of the core is so.
 pub fits-port : (x : CountedView) (p : CoreView) (q : Port) → core_of q ≡ p.core → CoreFits x p → PortFits x q (port_in p q)
@@ -42,49 +43,6 @@ waiting-is (Asked r) h = absurd h
 waiting-is (Waiting r) h = (r, refl)
 waiting-is (Answered r word) h = absurd h
 waiting-is Closed h = absurd h
-
--- A port's remaining_wait doesn't rise where nothing is helped less.
-pub remaining_wait-falls : (a b : PortState) (bound old new : ℕ) → Evolves a b → (IsWaiting b → old ≤ new)
-    → remaining_wait_of b (bound - new) ≤ remaining_wait_of a (bound - old)
-remaining_wait-falls a Free bound old new m h = omega arith
-remaining_wait-falls a (Asked r) bound old new m h = omega arith
-remaining_wait-falls a (Waiting r) bound old new (inl eq) h =
-    let P : PortState → Type 0 = λ s. bound - new ≤ remaining_wait_of s (bound - old) in subst P eq (let k = h tt in omega (arith, k))
-remaining_wait-falls a (Waiting r) bound old new (inr s) h = let eq = s.1.1.1 in cc
-remaining_wait-falls a (Answered r word) bound old new m h = omega arith
-remaining_wait-falls a Closed bound old new m h = omega arith
-
--- It falls by one where a step helped.
-pub remaining_wait-helped : (a b : PortState) (bound old new : ℕ) → Evolves a b → (IsWaiting b → old + 1 ≤ new)
-    → remaining_wait_of b (bound - new) ≤ remaining_wait_of a (bound - old) - 1
-remaining_wait-helped a Free bound old new m h = omega arith
-remaining_wait-helped a (Asked r) bound old new m h = omega arith
-remaining_wait-helped a (Waiting r) bound old new (inl eq) h =
-    let P : PortState → Type 0 = λ s. bound - new ≤ remaining_wait_of s (bound - old) - 1 in subst P eq (let k = h tt in omega (arith, k))
-remaining_wait-helped a (Waiting r) bound old new (inr s) h = let eq = s.1.1.1 in cc
-remaining_wait-helped a (Answered r word) bound old new m h = omega arith
-remaining_wait-helped a Closed bound old new m h = omega arith
-
-pub remaining_wait-within : (s : PortState) (bound helping : ℕ) → remaining_wait_of s (bound - helping) ≤ bound
-remaining_wait-within Free bound helping = omega arith
-remaining_wait-within (Asked r) bound helping = omega arith
-remaining_wait-within (Waiting r) bound helping = omega arith
-remaining_wait-within (Answered r word) bound helping = omega arith
-remaining_wait-within Closed bound helping = omega arith
-
-is-served : (s : PortState) (r : Request) → port_phase s ≡ Served r → IsServed s
-is-served Free r e = cc
-is-served (Asked q) r e = cc
-is-served (Waiting q) r e = tt
-is-served (Answered q w) r e = tt
-is-served Closed r e = cc
-
-is-open : (s : PortState) (r : Request) → Holds (port_phase s) r → IsOpen s
-is-open Free r h = absurd h
-is-open (Asked q) r h = tt
-is-open (Waiting q) r h = tt
-is-open (Answered q w) r h = tt
-is-open Closed r h = absurd h
 
 -- What a memory x has for a call, by what was seen of the core; k has what no call changes.
 module _ (k : MemoryView) (x : CountedView) (p : CoreView) (f : CoreFits x p) (const : Keeps k x.memory) where
@@ -114,11 +72,11 @@ module _ (k : MemoryView) (x : CountedView) (p : CoreView) (f : CoreFits x p) (c
 
   pub served-now : (port : Port) (r : Request) → core_of port ≡ p.core → port_phase (port_in p port).state ≡ Served r
       → IsServed (x.memory.port port)
-  served-now port r e is = is-served (x.memory.port port) r (port_phase-now port r e is)
+  served-now port r e is = port_phase-served (x.memory.port port) r (port_phase-now port r e is)
 
   pub open-now : (port : Port) (r : Request) → core_of port ≡ p.core → Holds (port_phase (port_in p port).state) r
       → IsOpen (x.memory.port port)
-  open-now port r e is = is-open (x.memory.port port) r (holds-now port r e is)
+  open-now port r e is = port_phase-open (x.memory.port port) r (holds-now port r e is)
 
 -- k has what no call changes, x is the memory before the call and y after it, and p is what was seen before.
 module _ (k : MemoryView) (x y : CountedView) (p : CoreView) (f : CoreFits x p) (const : Keeps k x.memory) where
@@ -162,8 +120,10 @@ module _ (k : MemoryView) (x y : CountedView) (p : CoreView) (f : CoreFits x p) 
       ≤ remaining_wait_of (port_in p port).state (k.bound - (port_in p port).helping) in
       let same = (fits-port x p port e f).helping in
       subst P (sym (port-view y p.core port e))
-      (remaining_wait-falls (port_in p port).state (y.memory.port port) k.bound (port_in p port).helping (y.numbers.helping port)
-      (evolves-twice (fits-port x p port e f).state m) (λ w. let less = h w in omega (arith, less, same)))
+      (let falls = remaining_wait-falls (port_in p port).state (y.memory.port port) (k.bound - (port_in p port).helping)
+      (k.bound - y.numbers.helping port) 0 (evolves-twice (fits-port x p port e f).state m)
+      (λ w. let less = h w in omega (arith, less, same))
+      in omega (arith, falls))
 
   view-other : (port : Port) → core_of port ≡ p.core → LeavesPort port (side_of x.memory (core_of port)) (side_of y.memory (core_of port))
       → ((r : Port) → r ≢ port → y.numbers.helping r ≡ x.numbers.helping r)
@@ -204,21 +164,39 @@ module _ (k : MemoryView) (x y : CountedView) (p : CoreView) (f : CoreFits x p) 
         port = ap port_phase (state-is port e) ∙ s.port;
         asks = asks-same port e s.asks;
         taken = taken-same (core_of port) e s.taken;
-        remaining_wait = λ t. remaining_wait-within (port_in (core_view y p.core) port).state k.bound
-            (port_in (core_view y p.core) port).helping;
+        remaining_wait = λ t. let helping = (port_in (core_view y p.core) port).helping in
+            let within = remaining_wait-within (port_in (core_view y p.core) port).state (k.bound - helping) in omega (arith, within);
       }
 
-  -- A step helping each waiting request of its core.
-  helped-once : (port : Port) → core_of port ≡ p.core → IsWaiting (x.memory.port port)
-      → y.numbers ≡ with_step moved.Moved p.core x.memory x.numbers → x.numbers.helping port + 1 ≤ y.numbers.helping port
-  helped-once port e w n =
+  -- A step helps each request of its core that waits, and no other.
+  helped-by : (port : Port) → core_of port ≡ p.core → y.numbers ≡ with_step moved.Moved p.core x.memory x.numbers
+      → y.numbers.helping port ≡ (if waits (x.memory.port port) then x.numbers.helping port + 1 else x.numbers.helping port)
+  helped-by port e n =
       let own : (p.core == core_of port) ≡ true = eq-eqb _ _ (sym e) in
-      let on = waits-waiting (x.memory.port port) w in
       let all : y.numbers.helping port
       ≡ (if (p.core == core_of port) && waits (x.memory.port port) then x.numbers.helping port + 1 else x.numbers.helping port) =
       ap (λ z. z.helping port) n in
-      let some : y.numbers.helping port ≡ x.numbers.helping port + 1 = rw (own, on) at all in
-      omega (arith, some)
+      rw own at all
+
+  helped-once : (port : Port) → core_of port ≡ p.core → IsWaiting (x.memory.port port)
+      → y.numbers ≡ with_step moved.Moved p.core x.memory x.numbers → y.numbers.helping port ≡ x.numbers.helping port + 1
+  helped-once port e w n = let on = waits-waiting (x.memory.port port) w in rw on at (helped-by port e n)
+
+  -- What a step helps waited, as it was seen, and is helped by one step.
+  pub helped-view : (result : Moved) (port : Port) → core_of port ≡ p.core → y.numbers ≡ with_step result p.core x.memory x.numbers
+      → ((port_in (core_view y p.core) port).helping ≡ (port_in p port).helping)
+      ⊎ (IsWaiting (port_in p port).state × ((port_in (core_view y p.core) port).helping ≡ (port_in p port).helping + 1))
+  helped-view moved.Moved port e n =
+      let now = ap (λ z. z.helping) (port-view y p.core port e) in
+      let was = (fits-port x p port e f).helping in
+      ⊎_elim (λ off. inl (now ∙ ((rw off at (helped-by port e n)) ∙ sym was)))
+      (λ w. inr (
+        still_waiting (fits-port x p port e f).state w,
+        now ∙ (helped-once port e w n ∙ ap (λ k. k + 1) (sym was)),
+      ))
+      (waits-cases (x.memory.port port))
+  helped-view moved.Idle port e n =
+      inl (ap (λ z. z.helping) (port-view y p.core port e) ∙ (ap (λ z. z.helping port) n ∙ sym (fits-port x p port e f).helping))
 
   step-remaining_wait : (result : Moved) (port : Port) → core_of port ≡ p.core
       → SideSteps result p.core (side_of x.memory p.core) (side_of y.memory p.core) → y.numbers ≡ with_step result p.core x.memory x.numbers
@@ -230,17 +208,28 @@ module _ (k : MemoryView) (x y : CountedView) (p : CoreView) (f : CoreFits x p) 
       let same = (fits-port x p port e f).helping in
       let m = s.stays.ports port e in
       subst P (sym (port-view y p.core port e))
-      (remaining_wait-helped (port_in p port).state (y.memory.port port) k.bound (port_in p port).helping (y.numbers.helping port)
-      (evolves-twice (fits-port x p port e f).state m)
-      (λ w. let less = helped-once port e (still-waiting _ _ m w) n in omega (arith, less, same)))
+      (remaining_wait-falls (port_in p port).state (y.memory.port port) (k.bound - (port_in p port).helping)
+      (k.bound - y.numbers.helping port) 1 (evolves-twice (fits-port x p port e f).state m)
+      (λ w. let less = helped-once port e (still_waiting m w) n in omega (arith, less, same)))
   step-remaining_wait moved.Idle port e s n =
       let P : PortView → Type 0 = λ z. remaining_wait_of z.state (k.bound - z.helping)
       ≤ remaining_wait_of (port_in p port).state (k.bound - (port_in p port).helping) - 1 in
-      let same = (fits-port x p port e f).helping in
       subst P (sym (port-view y p.core port e))
-      (remaining_wait-helped (port_in p port).state (y.memory.port port) k.bound (port_in p port).helping (y.numbers.helping port)
-      (evolves-twice (fits-port x p port e f).state (s.stays.ports port e))
+      (remaining_wait-falls (port_in p port).state (y.memory.port port) (k.bound - (port_in p port).helping)
+      (k.bound - y.numbers.helping port) 1 (evolves-twice (fits-port x p port e f).state (s.stays.ports port e))
       (λ w. absurd (s.idle refl port e w)))
+
+  -- A request that a step didn't help doesn't wait behind it.
+  pub unhelped-view : (result : Moved) (port : Port) → core_of port ≡ p.core
+      → SideSteps result p.core (side_of x.memory p.core) (side_of y.memory p.core) → y.numbers ≡ with_step result p.core x.memory x.numbers
+      → (port_in (core_view y p.core) port).helping ≡ (port_in p port).helping → IsWaiting (port_in (core_view y p.core) port).state → ⊥
+  unhelped-view moved.Moved port e s n same w =
+      let here = waiting_along {a = y.memory.port port} (state-is port e) w in
+      let more = helped-once port e (still_waiting (s.stays.ports port e) here) n in
+      let now = ap (λ z. z.helping) (port-view y p.core port e) in
+      let was = (fits-port x p port e f).helping in
+      omega (arith, more, now, was, same)
+  unhelped-view moved.Idle port e s n same w = s.idle refl port e (waiting_along (state-is port e) w)
 
   pub steps-view : (result : Moved) → IsLawful x.memory → Steps result x.memory y.memory
       → y.numbers ≡ with_step result p.core x.memory x.numbers
@@ -254,7 +243,7 @@ module _ (k : MemoryView) (x y : CountedView) (p : CoreView) (f : CoreFits x p) 
           asks = λ port e. asks-same port e (s.stays.asks port e);
           taken = taken-same p.core refl s.stays.taken;
         };
-        idle = λ is port e w. s.idle is port e (waiting-along (state-is port e) w);
+        idle = λ is port e w. s.idle is port e (waiting_along (state-is port e) w);
         remaining_wait = λ t port e. step-remaining_wait result port e s n;
       }
 
@@ -280,11 +269,11 @@ module _ (k : MemoryView) (x y : CountedView) (p : CoreView) (f : CoreFits x p) 
       → helping ≡ x.numbers.helping port → Evolves s (x.memory.port port) → IsWaiting (x.memory.port port) → IsTrue k.tells_distances
       → 1 ≤ remaining_wait_of s (k.bound - helping)
   some-remaining_wait s port helping lawful helped same m w told =
-      let t = true-along (sym const.tells_distances) told in
+      let t = const.tells_distances ∙ told in
       let near = (lawful.near t port w).0 in
       let within = helped t port w in
       let bound = const.bound in
-      let is = waiting-is s (still-waiting s (x.memory.port port) m w) in
+      let is = waiting-is s (still_waiting m w) in
       let P : PortState → Type 0 = λ z. 1 ≤ remaining_wait_of z (k.bound - helping) in
       subst P (sym is.1) (omega (arith, near, within, bound, same))
 
@@ -320,16 +309,12 @@ module _ (k : MemoryView) (x y : CountedView) (p : CoreView) (f : CoreFits x p) 
         ),
       )
 
-  unanswered-before : (a b : PortState) → Evolves a b → IsUnanswered b → IsUnanswered a
-  unanswered-before a b (inl e) h = let P : PortState → Type 0 = λ z. IsUnanswered z in subst P e h
-  unanswered-before a b (inr e) h = let P : PortState → Type 0 = λ z. IsUnanswered z in absurd (subst P e.1.1.1 h)
-
   pub withdraws-view : (result : Withdrawal) (port : Port) (r : Request) → core_of port ≡ p.core → IsLawful x.memory
       → Holds (port_phase (port_in p port).state) r → Withdraws result port x.memory y.memory → y.numbers ≡ x.numbers
       → SideWithdraws result port r (side_in k p) (side_in k (core_view y p.core))
   withdraws-view withdrawal.Withdrawn port r e lawful is h n =
       let s = withdraws-side withdrawal.Withdrawn port r x.memory y.memory lawful (holds-now k x p f const port r e is) h in
-      (view-leaves port Closed [] e s.0 n, unanswered-before _ _ (fits-port x p port e f).state s.1)
+      (view-leaves port Closed [] e s.0 n, still_unanswered (fits-port x p port e f).state s.1)
   withdraws-view (withdrawal.Answered w) port r e lawful is h n =
       let s = withdraws-side (withdrawal.Answered w) port r x.memory y.memory lawful (holds-now k x p f const port r e is) h in
       (view-leaves port Closed (entries_of port r w) e s.0 n, evolves-twice (fits-port x p port e f).state s.1)

@@ -1,5 +1,4 @@
 pub mod NumberLaws
-pub mod SideLaws
 pub mod CoreLaws
 pub mod CallLaws
 pub mod PassLaws

@@ -1,5 +1,5 @@
 -- What is counted stays within its bounds over each call on a memory.
-use Rattle.std.proofs.Common.{◌≡◌, ◌≢◌, ℕ, zero, suc, ◌+◌, ◌*◌, ◌<◌, ◌≤◌, inl, inr, Bool, true, false, IsTrue, refl, ap, sym, ◌∙◌, subst}
+use Rattle.std.proofs.Common.{◌≡◌, ◌≢◌, ℕ, zero, suc, ◌+◌, ◌*◌, ◌<◌, ◌≤◌, ◌⊎◌, inl, inr, Bool, true, false, IsTrue, refl, ap, sym, ◌∙◌, subst}
 use Rattle.std.proofs.Common.{arith, eq-eqb, ne_eqb}
 use Rattle.std.specs.Prelude.{◌==◌, ◌&&◌, if◌then◌else◌}
 use Rattle.std.proofs.lemmas.Bool.{cases_eq}
@@ -12,16 +12,9 @@ use Rattle.mem_port.specs.declared.port.Moved.{Moved}
 use Rattle.mem_port.specs.declared.port.Moved.TheVariants as moved
 use Rattle.mem_port.specs.Ports.{core_of, IsWaiting}
 use Rattle.mem_port.specs.Memory.{MemoryView, IsLawful, Keeps, LeavesPorts, Asks, Serves, Steps, steps_of_request}
-use Rattle.mem_port.specs.Side.{Evolves}
 use Rattle.mem_port.proofs.PortLaws.{cases_port}
-use Rattle.mem_port.proofs.SideLaws.{steps-side}
+use Rattle.mem_port.proofs.SideLaws.{waiting_along, steps-waited}
 use Rattle.turn.specs.Numbers.{Numbers, same_port, waits, no_numbers, with_ask, with_serve, with_step, all_asked, IsHelped, IsPaid}
-
-pub true-along : {a b : Bool} → b ≡ a → IsTrue b → IsTrue a
-true-along e h = let P : Bool → Type 0 = λ x. IsTrue x in subst P e h
-
-pub waiting-along : {a b : PortState} → b ≡ a → IsWaiting b → IsWaiting a
-waiting-along e h = let P : PortState → Type 0 = λ x. IsWaiting x in subst P e h
 
 pub port-is : (p : Port) → same_port p p ≡ true
 port-is (Fetch c) = eq-eqb c c refl
@@ -40,27 +33,24 @@ waits-waiting (Waiting r) h = refl
 waits-waiting (Answered r word) h = absurd h
 waits-waiting Closed h = absurd h
 
-pub still-waiting : (a b : PortState) → Evolves a b → IsWaiting b → IsWaiting a
-still-waiting a b (inl e) h = waiting-along e h
-still-waiting a b (inr s) h = absurd (waiting-along {a = Answered s.0 s.1.0} s.1.1.1 h)
-
--- A port that a step leaves waiting waited before.
-pub step-waited : (result : Moved) (old new : MemoryView) → IsLawful old → Steps result old new → (q : Port) → IsWaiting (new.port q)
-    → IsWaiting (old.port q)
-step-waited result old new lawful h q w =
-    still-waiting (old.port q) (new.port q) ((steps-side result (core_of q) old new lawful h).stays.ports q refl) w
+pub waits-cases : (s : PortState) → (waits s ≡ false) ⊎ IsWaiting s
+waits-cases Free = inl refl
+waits-cases (Asked r) = inl refl
+waits-cases (Waiting r) = inr tt
+waits-cases (Answered r word) = inl refl
+waits-cases Closed = inl refl
 
 -- The distance of a waiting request and the steps that helped it.
 
 pub helped-new : (m : MemoryView) → ((q : Port) → m.port q ≡ Free) → IsHelped m no_numbers
-helped-new m free = λ told q w. absurd (waiting-along {a = Free} (free q) w)
+helped-new m free = λ told q w. absurd (waiting_along {a = Free} (free q) w)
 
 -- A call on one port that leaves it not waiting.
 helped-other : (p q : Port) (old new : MemoryView) (n : Numbers) → Keeps old new → LeavesPorts p old new → q ≢ p → IsHelped old n
     → IsTrue new.tells_distances → IsWaiting (new.port q) → n.helping q + new.distance q ≤ new.bound
 helped-other p q old new n kept others ne h told w =
-    let t = true-along kept.tells_distances told in
-    let was = waiting-along (others.ports q ne) w in
+    let t = sym kept.tells_distances ∙ told in
+    let was = waiting_along (others.ports q ne) w in
     let less = others.distances t q ne was in
     let within = h t q was in
     let bound = kept.bound in
@@ -69,7 +59,7 @@ helped-other p q old new n kept others ne h told w =
 pub helped-asks : (p : Port) (r : Request) (old new : MemoryView) (n : Numbers) → Asks p r old new → IsHelped old n
     → IsHelped new (with_ask p n)
 helped-asks p r old new n a h = λ told q w. elim (cases_port p q) as (λ _. n.helping q + new.distance q ≤ new.bound) [
-  | inl e ↦ absurd (waiting-along {a = Asked r} (ap new.port e ∙ a.port) w)
+  | inl e ↦ absurd (waiting_along {a = Asked r} (ap new.port e ∙ a.port) w)
   | inr ne ↦ helped-other p q old new n a.kept a.others ne h told w
 ]
 
@@ -86,17 +76,17 @@ one_more : (b : Bool) (h d l m : ℕ) → h + d ≤ l → m + 1 ≤ d → (if b 
 one_more true h d l m a b = omega (arith, a, b)
 one_more false h d l m a b = omega (arith, a, b)
 
-pub helped-steps : (result : Moved) (core : ℕ) (old new : MemoryView) (n : Numbers) → IsLawful old → Steps result old new → IsHelped old n
+pub helped-steps : (result : Moved) (core : ℕ) (old new : MemoryView) (n : Numbers) → Steps result old new → IsHelped old n
     → IsHelped new (with_step result core old n)
-helped-steps moved.Moved core old new n lawful s h = λ told q w. (
-    let t = true-along s.kept.tells_distances told in
-    let was = step-waited moved.Moved old new lawful s q w in
+helped-steps moved.Moved core old new n s h = λ told q w. (
+    let t = sym s.kept.tells_distances ∙ told in
+    let was = steps-waited moved.Moved old new s q w in
     let a = h t q was in
     let P : ℕ → Type 0 = λ b. (if (core == core_of q) && waits (old.port q) then n.helping q + 1 else n.helping q) + new.distance q ≤ b in
     subst P (sym s.kept.bound) (one_more ((core == core_of q) && waits (old.port q)) (n.helping q) (old.distance q) old.bound
     (new.distance q) a (s.distances t q w)))
-helped-steps moved.Idle core old new n lawful s h = λ told q w. (
-    let a = h (true-along s.1.kept.tells_distances told) q (waiting-along (s.1.ports q) w) in
+helped-steps moved.Idle core old new n s h = λ told q w. (
+    let a = h (sym s.1.kept.tells_distances ∙ told) q (waiting_along (s.1.ports q) w) in
     let b = s.1.distances q in
     let c = s.1.kept.bound in
     omega (arith, a, b, c))
@@ -117,7 +107,7 @@ asked-else p asked (suc c) h =
     let i = asked-else p asked c (omega (arith, h)) in
     rw (f, a, i) refl
 
-asked-once : (p : Port) (asked : Port → ℕ)
+pub asked-once : (p : Port) (asked : Port → ℕ)
     → (if same_port p (Fetch (core_of p)) then asked (Fetch (core_of p)) + 1 else asked (Fetch (core_of p)))
     + (if same_port p (Access (core_of p)) then asked (Access (core_of p)) + 1 else asked (Access (core_of p))) ≡ asked (Fetch (core_of p))
     + asked (Access (core_of p)) + 1
@@ -149,7 +139,7 @@ pay s l m k a h g = omega (arith, h, g)
 pub paid-asks : (p : Port) (r : Request) (old new : MemoryView) (n : Numbers) → core_of p < old.cores → Asks p r old new → IsPaid old n
     → IsPaid new (with_ask p n)
 paid-asks p r old new n in_range a h = λ told core. (
-    let t = true-along a.kept.tells_load told in
+    let t = sym a.kept.tells_load ∙ told in
     let P : ℕ → Type 0 = λ c. n.moved core + new.load ≤ (4 * c + 3) * all_asked (λ q. if same_port p q then n.asked q + 1 else n.asked q) c
     in
     let Q : ℕ → Type 0 = λ x. n.moved core + new.load ≤ (4 * old.cores + 3) * x in
@@ -159,7 +149,7 @@ paid-asks p r old new n in_range a h = λ told core. (
 paid-less : (old new : MemoryView) (n : Numbers) → Keeps old new → (IsTrue old.tells_load → new.load ≤ old.load) → IsPaid old n
     → IsPaid new n
 paid-less old new n kept less h = λ told core. (
-    let t = true-along kept.tells_load told in
+    let t = sym kept.tells_load ∙ told in
     let P : ℕ → Type 0 = λ c. n.moved core + new.load ≤ (4 * c + 3) * all_asked n.asked c in
     let a = h t core in let b = less t in
     subst P (sym kept.cores) (omega (arith, a, b)))
@@ -175,7 +165,7 @@ one_step false s l k m a b = omega (arith, a, b)
 pub paid-steps : (result : Moved) (core : ℕ) (old new : MemoryView) (n : Numbers) → Steps result old new → IsPaid old n
     → IsPaid new (with_step result core old n)
 paid-steps moved.Moved core old new n s h = λ told c. (
-    let t = true-along s.kept.tells_load told in
+    let t = sym s.kept.tells_load ∙ told in
     let P : ℕ → Type 0 = λ k. (if core == c then n.moved c + 1 else n.moved c) + new.load ≤ (4 * k + 3) * all_asked n.asked k in
     subst P (sym s.kept.cores) (one_step (core == c) (n.moved c) old.load _ new.load (h t c) (s.load t)))
 paid-steps moved.Idle core old new n s h = paid-less old new n s.1.kept (λ t. let e = s.1.load in omega (arith, e)) h

@@ -1,18 +1,23 @@
 -- How the seat of a new lock, which speaks for all cores, is split among their passes.
-use Rattle.std.proofs.Common.{◌≡◌, ℕ, zero, suc, ◌+◌, ◌<◌, List, [], ◌∷◌, Some, None, sym, refl, ap, ◌∙◌, subst, arith}
+use Rattle.std.proofs.Common.{◌≡◌, ℕ, zero, suc, ◌+◌, ◌<◌, List, [], ◌∷◌, Some, None, inl, sym, refl, ap, ◌∙◌, subst, arith}
 use Rattle.std.specs.Prelude.{slice_get}
 use Rattle.atomic_table.specs.Seated.{TableId}
 use Rattle.atomic_table.specs.Table.{Me}
 use Rattle.mem_port.specs.declared.memory.MemoryCore.{Ghosts}
+use Rattle.mem_port.specs.Memory.{MemoryView}
+use Rattle.mem_port.specs.Side.{SideStays, side_of}
+use Rattle.turn.specs.declared.views.PortView.{PortView}
+use Rattle.turn.specs.declared.views.CoreView.{CoreView}
 use Rattle.turn.specs.declared.views.PassView.{PassView}
 use Rattle.turn.specs.declared.counted.Counted.{Counted}
 use Rattle.turn.specs.declared.pass.Turn.{Turn}
 use Rattle.turn.specs.declared.pass.Pass.{Pass}
 use Rattle.turn.specs.Numbers.{no_numbers}
-use Rattle.turn.specs.Views.{CountedView, counted, core_view}
-use Rattle.turn.specs.Rule.{cores_from, pass_view, no_counts, counts_of, left_of, right_of, opening_view}
+use Rattle.turn.specs.Views.{CountedView, counted, core_view, side_in}
+use Rattle.turn.specs.Rule.{own_core, cores_from, pass_view, no_counts, counts_of, left_of, right_of, opening_view}
 use Rattle.turn.specs.Holding.{IsResting}
 use Rattle.turn.specs.Passes.{first_view, IsFirst}
+use Rattle.turn.proofs.CoreLaws.{port-view}
 
 pub none-in : {X : Type 0} (xs : List X) (i : ℕ) (x : X) → xs ≡ [] → slice_get xs i ≡ Some x → ⊥
 none-in [] i x e got = cc
@@ -65,6 +70,14 @@ waits-all {S} o seen x (suc k) me same cores some is = (
   ),
 )
 
+first-side : (m : MemoryView) (core : ℕ) → SideStays core (side_of m core) (side_in m (core_view (counted m no_numbers) core))
+first-side m core = record {
+  kept = record { image = refl; cores = refl; tells_distances = refl; bound = refl };
+  ports = λ q e. inl (ap (λ (v : PortView). v.state) (port-view (counted m no_numbers) core q e));
+  asks = λ q e. ap (λ (v : PortView). v.asks_left) (port-view (counted m no_numbers) core q e);
+  taken = refl;
+}
+
 -- The seat of a core's first pass, and the pass's number.
 abbrev pub IsFirstSeat : {M : Type 0} {g : Ghosts M} → Turn M g → ℕ → TableId → ℕ → PassView (Counted M g) → Type 0
 IsFirstSeat turn core table number view =
@@ -74,9 +87,13 @@ IsFirstSeat turn core table number view =
 
 pub first-pass : {M : Type 0} {g : Ghosts M} (turn : Turn M g) (core : ℕ) (pass : Pass M g)
     → IsFirstSeat turn core pass.seat.table_id pass.core pass.seat.me.0 → IsFirst turn core pass
-first-pass {M} {g} turn core pass is = record {
-  turn_is = record { table = is.0; origin = ap (λ (v : PassView (Counted M g)). v.origin) is.1.1 };
-  core_is = is.1.0;
-  cores = ap (λ (v : PassView (Counted M g)). v.cores) is.1.1;
-  none_counted = ap (λ (v : PassView (Counted M g)). counts_of v) is.1.1;
-}
+first-pass {M} {g} turn core pass is =
+    let Side : CoreView → Type 0 = λ v. SideStays core (side_of (first_view turn) core) (side_in (first_view turn) v) in
+    let own : own_core pass.seat.me.0.cores ≡ core_view (counted (first_view turn) no_numbers) core =
+    ap (λ (v : PassView (Counted M g)). own_core v.cores) is.1.1 in record {
+      turn_is = record { table = is.0; origin = ap (λ (v : PassView (Counted M g)). v.origin) is.1.1 };
+      core_is = is.1.0;
+      cores = ap (λ (v : PassView (Counted M g)). v.cores) is.1.1;
+      side_is = subst Side (sym own) (first-side (first_view turn) core);
+      none_counted = ap (λ (v : PassView (Counted M g)). counts_of v) is.1.1;
+    }

@@ -7,14 +7,14 @@ use Rattle.mem_port.specs.declared.port.Moved.TheVariants as moved
 use Rattle.mem_port.specs.declared.port.Withdrawal.TheVariants as withdrawal
 use Rattle.mem_port.specs.Calls.{Call, Ask, Serve, Step, Take, Withdraw}
 use Rattle.mem_port.specs.Memory.{MemoryView, IsLawful, Keeps}
-use Rattle.mem_port.specs.Side.{SideView, steps_in}
+use Rattle.mem_port.specs.Side.{SideView, SideStays, side_of, steps_in}
 use Rattle.turn.specs.declared.views.PortView.{PortView}
 use Rattle.turn.specs.declared.views.CoreView.{CoreView}
 use Rattle.turn.specs.declared.counted.Counted.{Counted}
 use Rattle.turn.specs.declared.pass.Turn.{Turn}
 use Rattle.turn.specs.declared.pass.Pass.{Pass}
 use Rattle.turn.specs.Numbers.{no_numbers}
-use Rattle.turn.specs.Views.{CoreFits, counted, core_view, port_in, side_in}
+use Rattle.turn.specs.Views.{CoreFits, counted, core_view, port_in, side_in, asks_of}
 use Rattle.turn.specs.Rule.{own_core, joined_cores, times, Counts, no_counts, Event, quiet, none_taken, idle_step, moved_step}
 use Rattle.turn.specs.Rule.{none_withdrawn, with_event, IsCaused, counts_of}
 use Rattle.turn.specs.Counting.{memory_of, seen, IsCounted}
@@ -36,7 +36,15 @@ event_of (Take p None) = none_taken
 event_of (Withdraw p (withdrawal.Answered word)) = quiet
 event_of (Withdraw p withdrawal.Withdrawn) = none_withdrawn
 
--- How many steps that moved something it makes.
+-- How many requests it asks, and how many steps that moved something it makes.
+
+abbrev pub requests_of : Call → ℕ
+requests_of (Ask p r) = 1
+requests_of (Serve p) = 0
+requests_of (Step choice result) = 0
+requests_of (Take p result) = 0
+requests_of (Withdraw p result) = 0
+
 abbrev pub moves_of : Call → ℕ
 moves_of (Ask p r) = 0
 moves_of (Serve p) = 0
@@ -75,11 +83,12 @@ module _ {M : Type 0} {g : Ghosts M} where
     pub table : pass.seat.table_id ≡ turn.lock.table.shared.table_id
     pub origin : pass.seat.me.0.origin ≡ Some turn.lock.table.shared.key.value
 
-  -- The pass of a core, which has seen the memory at the start.
+  -- The pass of a core, which has seen the memory at the start: its side is that of a core that has the memory for itself.
   pub record IsFirst (turn : Turn M g) (core : ℕ) (pass : Pass M g) : Type 0 where
     pub turn_is : IsOf turn pass
     pub core_is : pass.core ≡ core
     pub cores : all_cores pass ≡ core_view (counted (first_view turn) no_numbers) core ∷ []
+    pub side_is : SideStays core (side_of (first_view turn) core) (side turn pass)
     pub none_counted : counts pass ≡ no_counts
 
   -- It speaks for every core.
@@ -93,6 +102,7 @@ module _ {M : Type 0} {g : Ghosts M} where
     pub joined : joined_cores (all_cores new) ≡ joined_cores (all_cores old)
     -- Its answer is counted.
     pub counts_are : counts new ≡ with_event (event_of call) (counts old)
+    pub asked : asks_of (own new) ≡ asks_of (own old) + requests_of call
     pub moved : (own new).moved ≡ (own old).moved + moves_of call
     -- The memory as it was taken, and as it was let go.
     pub taken : Counted M g

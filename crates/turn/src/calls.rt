@@ -1,10 +1,11 @@
 //! The calls of a core's caller. Each waits for the turn, makes one call of the memory, and lets the
 //! turn go.
-ghost use Rattle.std.specs.Prelude.{◌≡◌, ◌≤◌};
+ghost use Rattle.std.specs.Prelude.{◌≡◌, ◌≤◌, ◌+◌, ◌⊎◌, ℕ};
 ghost use Rattle.access_log.specs.declared.request.Request.{Request};
-ghost use Rattle.mem_port.specs.declared.port.PortState.TheVariants.{Free, Asked};
+ghost use Rattle.mem_port.specs.declared.port.Port.{Port};
+ghost use Rattle.mem_port.specs.declared.port.PortState.TheVariants.{Free, Asked, Answered};
 ghost use Rattle.mem_port.specs.Calls.{Ask, Serve, Step, Take, Withdraw};
-ghost use Rattle.mem_port.specs.Ports.{core_of, MayAsk};
+ghost use Rattle.mem_port.specs.Ports.{core_of, MayAsk, IsWaiting};
 ghost use Rattle.mem_port.specs.Side.{port_phase, Served, Holds, SideAsks, SideServes, SideSteps, SideTakes, SideWithdraws};
 ghost use Rattle.turn.specs.Passes.{IsOf, HasMade, first_view, port_of, side};
 
@@ -45,11 +46,16 @@ impl<M: MemoryCore> Turn<M> {
         self.lock.release::<Quiet>(&mut pass.seat);
     }
 
-    /// Makes one step of the memory with a choice, if there is anything to be moved.
+    /// Makes one step of the memory with a choice, if there is anything to be moved. It helps a request
+    /// only where that waits, and one that it doesn't help has its answer.
     pub fn step<R: Wait>(&self, rt: &R, pass: &mut Pass<M>, choice: u32) -> Moved
         requires turn { IsOf self.now pass.old }
         ensures made { HasMade self.now (Step choice result) pass.old pass.new }
         ensures steps { SideSteps result pass.old.core (side self.now pass.old) (side self.now pass.new) }
+        ensures helped { (q : Port) → core_of q ≡ pass.old.core → ((port_of pass.new q).helping ≡ (port_of pass.old q).helping)
+            ⊎ (IsWaiting (port_of pass.old q).state × ((port_of pass.new q).helping ≡ (port_of pass.old q).helping + 1)) }
+        ensures unhelped { (q : Port) (r : Request) → core_of q ≡ pass.old.core → port_phase (port_of pass.old q).state ≡ Served r
+            → (port_of pass.new q).helping ≡ (port_of pass.old q).helping → (word : ℕ) × ((port_of pass.new q).state ≡ Answered r word) }
     {
         self.lock.acquire(rt, &mut pass.seat, pass.core);
         let counted = pass.seat.slot_mut(&self.lock.table.shared, 0);

@@ -28,35 +28,40 @@ impl<S: Watched> Play<S, PassView<S>> for Acquire {
     ghost then = { λ st me n w. Acquires S.seen me n w };
 }
 
-/// What a release counts.
+/// What a release counts: how the call before it ended.
 pub trait Counting {
     ghost event: { Event };
 }
 
+/// A call whose answer is not counted.
 pub struct Quiet;
 
 impl Counting for Quiet {
     ghost event = { quiet };
 }
 
+/// A take that found no answer.
 pub struct NoneTaken;
 
 impl Counting for NoneTaken {
     ghost event = { none_taken };
 }
 
+/// A step that found nothing to be moved.
 pub struct IdleStep;
 
 impl Counting for IdleStep {
     ghost event = { idle_step };
 }
 
+/// A step that moved something.
 pub struct MovedStep;
 
 impl Counting for MovedStep {
     ghost event = { moved_step };
 }
 
+/// A withdrawal of what had no answer.
 pub struct NoneWithdrawn;
 
 impl Counting for NoneWithdrawn {

@@ -4,7 +4,7 @@ use Rattle.std.proofs.lemmas.List.Elements.{All-push}
 use Rattle.std_laws.proofs.ListLaws.{EachTo-push, slice_get_at}
 use Rattle.timetable.specs.declared.CoreEnd.{CoreEnd}
 use Rattle.timetable.specs.Outcome.{IsState}
-use Rattle.core_run.specs.Serial.{IsEndOf}
+use Rattle.core_run.specs.Outcomes.{IsEndOf}
 use Rattle.core_run.proofs.serial.gather.Goals as goal
 
 pub loop-slot-preserved : goal.loop-slot-preserved

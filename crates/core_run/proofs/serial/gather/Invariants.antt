@@ -4,7 +4,7 @@ use Rattle.std.specs.List.{All}
 use Rattle.std.specs.Vec.Iter.{into_iter_items}
 use Rattle.timetable.specs.declared.CoreEnd.{CoreEnd}
 use Rattle.timetable.specs.Outcome.{IsState}
-use Rattle.core_run.specs.Serial.{IsEndOf}
+use Rattle.core_run.specs.Outcomes.{IsEndOf}
 use Rattle.core_run.specs.declared.serial.CoreSlot.{CoreSlot}
 use Rattle.core_run.proofs.serial.gather.Given as goal
 

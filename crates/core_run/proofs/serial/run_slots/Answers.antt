@@ -36,8 +36,8 @@ returns-clause-made g c =
 pub returns-clause-served : goal.returns-clause-served
 returns-clause-served g c tells =
     let f = c.play_all.ensures in
-    let h = f.served _ (served-first g.E.CoreEngine.view g.E.CoreEngine.timed _ c.args.budget c.args.slots.items c.requires.fresh
-    c.requires.slots tells) in (
+    let h = f.served _ (served-first g.E.CoreEngine.view g.E.CoreEngine.timed _ c.args.budget c.args.slots.items
+    (sym c.args.slots.ok.0 ∙ c.requires.cores) c.requires.fresh c.requires.slots tells) in (
       h.0,
       ends-served g.E.CoreEngine.view g.E.TimedEngine.rows g.E.CoreEngine.timed _ _ c.args.budget _ _ _ c.gather.new.ends.items h.0 f.kept
           (c.gather.ensures.count ∙ (f.cores ∙ c.requires.cores))

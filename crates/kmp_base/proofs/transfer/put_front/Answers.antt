@@ -1,7 +1,7 @@
 use Rattle.std.proofs.Common.{◌∙◌, length, take, drop, sym, ap, arith, length-drop, take-add}
 use Rattle.std.proofs.lemmas.List.{take_rest}
 use Rattle.std.specs.Io.KnownBytes.{append_known}
-use Rattle.kmp_base.proofs.StreamLaws.{append_known-append}
+use Rattle.std_laws.proofs.OptionLaws.{append_known-append}
 use Rattle.kmp_base.proofs.transfer.put_front.Goals as goal
 
 pub loop-count-preserved : goal.loop-count-preserved

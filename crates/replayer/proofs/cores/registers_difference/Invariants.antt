@@ -1,7 +1,5 @@
-use Rattle.std.proofs.Common.{◌≡◌, drop}
-use Rattle.replayer.specs.Judgments.{first_told, registers_judged}
+use Rattle.replayer.proofs.JudgeLemmas.{register_at, AreSame}
 use Rattle.replayer.proofs.cores.registers_difference.Given as goal
 
 abbrev pub invariant-loop-i : goal.invariant-loop-i
-invariant-loop-i l =
-    first_told (drop l.i (registers_judged l.line l.kept.regs l.due.regs)) ≡ first_told (registers_judged l.line l.kept.regs l.due.regs)
+invariant-loop-i l = AreSame (register_at l.line l.kept.regs l.due.regs) 32 l.i

@@ -1,4 +1,4 @@
-use Rattle.report_rows.specs.Reading.{policy_row_of, turns_row_of}
+use Rattle.report_row_reader.specs.Reading.{policy_row_of, turns_row_of}
 use Rattle.report_read.proofs.header.header.Given as goal
 
 abbrev pub ghost-first_row : goal.ghost-first_row

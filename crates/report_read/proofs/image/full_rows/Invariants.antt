@@ -1,7 +1,7 @@
 use Rattle.std.proofs.Common.{◌≡◌, ◌+◌, ◌-◌, ◌*◌, ◌≤◌, length}
 use Rattle.kmp_base.proofs.ReadingLaws.{with_front_and_rest}
 use Rattle.row_reader.specs.Rows.{rows_of}
-use Rattle.report_rows.specs.Reading.{bytes_row_of}
+use Rattle.report_row_reader.specs.Reading.{bytes_row_of}
 use Rattle.report_read.specs.Reading.{full_rows_at}
 use Rattle.report_read.proofs.SizeLemmas.{size_of_rows}
 use Rattle.report_read.proofs.image.full_rows.Given as goal

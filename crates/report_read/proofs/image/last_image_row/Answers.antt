@@ -1,7 +1,7 @@
 use Rattle.std.proofs.Common.{refl}
 use Rattle.row_reader.specs.Rows.{rows_of}
 use Rattle.row_reader.proofs.LoopLaws.{cut_off}
-use Rattle.report_rows.specs.Reading.{bytes_row_of}
+use Rattle.report_row_reader.specs.Reading.{bytes_row_of}
 use Rattle.report_read.specs.Reading.{image_row_of}
 use Rattle.report_read.proofs.image.last_image_row.Goals as goal
 

@@ -3,7 +3,7 @@ use Rattle.kmp_base.proofs.ReadingLaws.{with_front_and_rest}
 use Rattle.row_reader.specs.Rows.{rows_of}
 use Rattle.row_reader.specs.Reading.{row_at, each_at}
 use Rattle.report_rows.specs.Names.{count_names}
-use Rattle.report_rows.specs.Reading.{count_row_of}
+use Rattle.report_row_reader.specs.Reading.{count_row_of}
 use Rattle.report_read.specs.Reading.{counts_at}
 use Rattle.report_read.proofs.outcome.counts.Given as goal
 

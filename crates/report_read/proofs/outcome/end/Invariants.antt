@@ -1,4 +1,4 @@
-use Rattle.report_rows.specs.Reading.{end_row_of}
+use Rattle.report_row_reader.specs.Reading.{end_row_of}
 use Rattle.report_read.proofs.outcome.end.Given as goal
 
 abbrev pub ghost-first_row : goal.ghost-first_row

@@ -1,5 +1,5 @@
 use Rattle.std.proofs.Common.{[], ◌∷◌}
-use Rattle.report_rows.specs.Reading.{fixed_of}
+use Rattle.report_row_reader.specs.Reading.{fixed_of}
 use Rattle.report_read.proofs.rows.fixed_at.Given as goal
 
 abbrev pub ghost-first_row : goal.ghost-first_row

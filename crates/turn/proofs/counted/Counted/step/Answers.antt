@@ -17,7 +17,7 @@ invariant_of-self g c =
     record {
       lawful = c.step.ensures.lawful;
       helped = subst H (sym c.of.ensures) (subst (λ x. IsHelped m (with_move core x (numbers view old.tally))) (sym before)
-          (helped-steps moved.Moved core (view old.memory) m (numbers view old.tally) old.lawful s old.helped));
+          (helped-steps moved.Moved core (view old.memory) m (numbers view old.tally) s old.helped));
       paid = subst P (sym c.of.ensures) (subst (λ x. IsPaid m (with_move core x (numbers view old.tally))) (sym before)
           (paid-steps moved.Moved core (view old.memory) m (numbers view old.tally) s old.paid));
     }

@@ -3,7 +3,7 @@ use Rattle.mem_port.specs.Calls.{Step}
 use Rattle.mem_port.specs.declared.port.Moved.TheVariants as moved
 use Rattle.turn.specs.Counting.{seen}
 use Rattle.turn.proofs.Acts.{slot-of, took, may, has_made}
-use Rattle.turn.proofs.PassLaws.{steps-made}
+use Rattle.turn.proofs.PassLaws.{steps-made, helped-made, unhelped-made}
 use Rattle.turn.proofs.pass.Turn.step.Goals as goal
 
 pub slot_mut-counted-requires : goal.slot_mut-counted-requires
@@ -35,6 +35,15 @@ pub returns-in-Idle-clause-steps : goal.returns-in-Idle-clause-steps
 returns-in-Idle-clause-steps g c =
     steps-made c.args.self.now c.args.pass.now _ c.args.choice moved.Idle (returns-in-Idle-clause-made g c) c.in-Idle.ensures.steps
 
+pub returns-in-Idle-clause-helped : goal.returns-in-Idle-clause-helped
+returns-in-Idle-clause-helped g c = λ q e.
+    helped-made c.args.self.now c.args.pass.now _ c.args.choice moved.Idle (returns-in-Idle-clause-made g c) q e
+
+pub returns-in-Idle-clause-unhelped : goal.returns-in-Idle-clause-unhelped
+returns-in-Idle-clause-unhelped g c = λ q r e is same.
+    unhelped-made c.args.self.now c.args.pass.now _ c.args.choice moved.Idle (returns-in-Idle-clause-made g c) c.in-Idle.ensures.steps q r e
+    is same
+
 pub release-requires-2-clause-may : goal.release-requires-2-clause-may
 release-requires-2-clause-may g c =
     let turn = c.args.self.now in let old = c.args.pass.now in let m = c.slot_mut-counted.result.now in
@@ -53,3 +62,12 @@ returns-clause-made g c =
 pub returns-clause-steps : goal.returns-clause-steps
 returns-clause-steps g c =
     steps-made c.args.self.now c.args.pass.now _ c.args.choice moved.Moved (returns-clause-made g c) c.in_default.ensures.steps
+
+pub returns-clause-helped : goal.returns-clause-helped
+returns-clause-helped g c = λ q e.
+    helped-made c.args.self.now c.args.pass.now _ c.args.choice moved.Moved (returns-clause-made g c) q e
+
+pub returns-clause-unhelped : goal.returns-clause-unhelped
+returns-clause-unhelped g c = λ q r e is same.
+    unhelped-made c.args.self.now c.args.pass.now _ c.args.choice moved.Moved (returns-clause-made g c) c.in_default.ensures.steps q r e is
+    same

@@ -1,0 +1,5 @@
+mod CallLemmas
+mod CoreLemmas
+mod JoinLemmas
+mod RunLemmas
+mod LeftLemmas

@@ -1,2 +1,0 @@
-pub mod CollectedLemmas
-pub mod FaultLemmas

@@ -1,0 +1,38 @@
+-- The report of a right outcome.
+use Rattle.std.proofs.Common.{◌≡◌, Result, Ok, Err, refl, subst}
+use Rattle.std.specs.Prelude.{IfOk}
+use Rattle.kmp_base.specs.declared.setup.Setup.{Setup}
+use Rattle.image_file.specs.Value.{ImageValue}
+use Rattle.access_log.specs.Items.{entries}
+use Rattle.timetable.specs.Outcome.{OutcomeValue}
+use Rattle.right_run.specs.Right.{IsRight}
+use Rattle.right_run.specs.Turns.{IsInTurns}
+use Rattle.report_text.specs.Report.{ReportValue, report_of}
+use Rattle.report_text.specs.Form.{IsReport}
+use Rattle.report_text.specs.Right.{IsRightReport}
+use Rattle.kmp_call.specs.Right.{IsReportOf}
+
+is_right : (setup : Setup) (image : ImageValue) (outcome : OutcomeValue) → IsRight setup image outcome
+    → IsRightReport (report_of setup image outcome)
+unfolding report_of
+is_right setup image outcome right = record { outcome = outcome; right = right; is = refl }
+
+-- The report of a right outcome is the one of a run.
+is_report_of : (setup : Setup) (image : ImageValue) (outcome : OutcomeValue) → IsRight setup image outcome
+    → IsInTurns setup (entries outcome.items)
+    → IsReport (report_of setup image outcome) → IsReportOf setup image (report_of setup image outcome)
+unfolding report_of
+is_report_of setup image outcome right turns form = record {
+  asked = refl;
+  loaded = refl;
+  right = is_right setup image outcome right;
+  form = form;
+  turns = turns;
+}
+
+pub reported : {E : Type 0} (setup : Setup) (image : ImageValue) (outcome : OutcomeValue) (result : Result ReportValue E)
+    → IfOk result (λ report. report ≡ report_of setup image outcome) → IfOk result (λ report. IsRight setup image outcome → IsReport report)
+    → IsRight setup image outcome → IsInTurns setup (entries outcome.items) → IfOk result (IsReportOf setup image)
+reported setup image outcome (Ok report) is form right turns =
+    rw is (is_report_of setup image outcome right turns (subst IsReport is (form right)))
+reported setup image outcome (Err fault) is form right turns = tt

@@ -1,0 +1,2 @@
+pub mod FormReplay
+pub mod FormLaws

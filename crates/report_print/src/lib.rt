@@ -1,0 +1,7 @@
+//! The one text of a report, into a sink.
+#![tactic(auto)]
+
+mod print;
+mod spell;
+
+pub use print::print_report;

@@ -1,0 +1,4 @@
+pub mod ValueLaws
+pub mod RowLaws
+pub mod PlainRowLaws
+pub mod LoopLemmas

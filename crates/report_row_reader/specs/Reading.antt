@@ -1,0 +1,188 @@
+-- What is read of each row of a report, from its parts.
+use Rattle.std.specs.Prelude.{ℕ, zero, suc, ◌-◌, ◌%◌, ◌^◌, ◌==◌, ◌&&◌, nat_lt, nat_le, if◌then◌else◌, Bool, List, [], ◌∷◌, codes, decimal}
+use Rattle.std.specs.Prelude.{Option, Some, None}
+use Rattle.row_reader.specs.Rows.{Row}
+use Rattle.row_reader.specs.Fields.{◌>>=◌, part_at, field_at, ended}
+use Rattle.row_reader.specs.Numbers.{number_of, word_of, optional_word_of, bytes_of, exactly}
+use Rattle.kmp_base.specs.Names.{named, with_names, policy_name, turns_name, every_policy, every_turns}
+use Rattle.kmp_base.specs.declared.setup.Policy.{Policy}
+use Rattle.kmp_base.specs.declared.setup.Turns.{Turns}
+use Rattle.mips_isa.specs.declared.Kind.{Kind}
+use Rattle.mips_isa.specs.declared.Kind.TheVariants as kinds
+use Rattle.mips_isa.specs.declared.Stop.TheVariants as stops
+use Rattle.access_log.specs.declared.Entry.{Entry}
+use Rattle.timetable.specs.declared.End.{End}
+use Rattle.timetable.specs.declared.End.TheVariants as ends
+use Rattle.mips_isa.specs.Names.{kind_name}
+use Rattle.timetable.specs.Names.{end_name}
+use Rattle.report_rows.specs.declared.MemoryWord.{MemoryWord}
+use Rattle.report_row_reader.specs.declared.read.EndRow.{EndRow}
+
+-- ---- names
+
+-- the policy of this name
+unfoldable pub policy_of : List ℕ → Option Policy
+policy_of text = named (with_names policy_name every_policy) text
+
+-- the turns of this name
+unfoldable pub turns_of : List ℕ → Option Turns
+turns_of text = named (with_names turns_name every_turns) text
+
+-- the kinds of an access: it is no fetch
+abbrev pub every_access : List Kind
+every_access = kinds.Lw ∷ kinds.Sw ∷ kinds.Cas ∷ []
+
+-- the kind of this name
+unfoldable pub kind_of : List ℕ → Option Kind
+kind_of text = named (with_names kind_name every_access) text
+
+-- the ends of a core
+abbrev pub every_end : List End
+every_end =
+    ends.Stopped stops.OffCode ∷ ends.Stopped stops.Halt ∷ ends.Stopped stops.Misaligned
+    ∷ ends.Stopped stops.Outside ∷ ends.Stopped stops.CodeWrite ∷ ends.Spent ∷ []
+
+-- the end of this name
+unfoldable pub end_of : List ℕ → Option End
+end_of text = named (with_names end_name every_end) text
+
+-- ---- rows that say one thing, or a name and a value
+
+-- these parts and no others
+unfoldable pub fixed_of : Row → Row → Option (Unit {0})
+fixed_of [] row = ended tt row
+fixed_of (part ∷ parts) row = field_at (exactly part) row >>= λ p. fixed_of parts p.1
+
+-- the text behind a name, in a row of these two parts
+abbrev pub text_behind : List ℕ → Row → Option (List ℕ)
+text_behind name row = do
+  title ← field_at (exactly name) row
+  text ← part_at title.1
+  ended text.0 text.1
+
+-- a value behind a name
+abbrev pub behind_name : {X : Type 0} → (List ℕ → Option X) → List ℕ → Row → Option X
+behind_name value_of name row = text_behind name row >>= value_of
+
+-- a number from a least to a most
+unfoldable pub number_from : ℕ → ℕ → List ℕ → Option ℕ
+number_from least most text = number_of most text >>= λ n. if nat_le least n then Some n else None
+
+-- a power of two up to 256: these are the divisors of 256
+unfoldable pub sets_of : List ℕ → Option ℕ
+sets_of text = number_from 1 256 text >>= λ n. if 256 % n == 0 then Some n else None
+
+-- the number of a row of this name, within its limits
+unfoldable pub number_row_of : List ℕ → ℕ → ℕ → Row → Option ℕ
+number_row_of name least most row = behind_name (number_from least most) name row
+
+-- the number of sets
+unfoldable pub sets_row_of : Row → Option ℕ
+sets_row_of row = behind_name sets_of (codes "sets") row
+
+-- which waiting cache the bus is granted to
+unfoldable pub policy_row_of : Row → Option Policy
+policy_row_of row = behind_name policy_of (codes "arbitration") row
+
+-- whose cycle comes next
+unfoldable pub turns_row_of : Row → Option Turns
+turns_row_of row = behind_name turns_of (codes "turns") row
+
+-- so many bytes of the image
+unfoldable pub bytes_row_of : ℕ → Row → Option (List ℕ)
+bytes_row_of size row = behind_name (bytes_of size) (codes "I") row
+
+-- ---- accesses
+
+-- whether a word starts there within so many bytes
+abbrev pub is_address : ℕ → ℕ → Bool
+is_address bytes addr = addr % 4 == 0 && nat_lt addr bytes
+
+-- the address of a word within so many bytes
+unfoldable pub address_of : ℕ → List ℕ → Option ℕ
+address_of bytes text = word_of text >>= λ addr. if is_address bytes addr then Some addr else None
+
+-- the words of an access, behind its core, its number, its kind and its address
+unfoldable pub entry_words_of : ℕ → ℕ → Kind → ℕ → Row → Option Entry
+entry_words_of core nth kind addr row = do
+  old ← field_at word_of row
+  new ← field_at optional_word_of old.1
+  ended (record { core = core; nth = nth; kind = kind; addr = addr; old = old.0; new = new.0 }) new.1
+
+-- the kind, the address and the words of an access, behind its core and its number
+unfoldable pub entry_access_of : ℕ → ℕ → ℕ → Row → Option Entry
+entry_access_of bytes core nth row = do
+  kind ← field_at kind_of row
+  addr ← field_at (address_of bytes) kind.1
+  entry_words_of core nth kind.0 addr.0 addr.1
+
+-- an access of one of so many cores, at a word within so many bytes
+unfoldable pub entry_row_of : ℕ → ℕ → Row → Option Entry
+entry_row_of cores bytes row = do
+  title ← field_at (exactly (codes "A")) row
+  core ← field_at (number_of (cores - 1)) title.1
+  nth ← field_at (number_of 100002) core.1
+  entry_access_of bytes core.0 nth.0 nth.1
+
+-- ---- ends of cores
+
+-- the cycles, the instructions and the counters of a core, behind how it ended
+unfoldable pub end_numbers_of : ℕ → End → Row → Option EndRow
+end_numbers_of budget end row = do
+  cycles ← field_at (number_of budget) row
+  retired ← field_at (number_of 100002) cycles.1
+  pc ← field_at word_of retired.1
+  dpc ← field_at word_of pc.1
+  ended (record { end = end; cycles = cycles.0; retired = retired.0; pc = pc.0; dpc = dpc.0 }) dpc.1
+
+-- how a core ended within its budget, without its registers
+unfoldable pub end_row_of : ℕ → ℕ → Row → Option EndRow
+end_row_of budget core row = do
+  title ← field_at (exactly (codes "C")) row
+  key ← field_at (exactly (decimal core)) title.1
+  end ← field_at end_of key.1
+  end_numbers_of budget end.0 end.1
+
+-- so many words, and nothing behind them
+unfoldable pub words_of : ℕ → Row → Option (List ℕ)
+words_of zero row = ended [] row
+words_of (suc n) row = do
+  word ← field_at word_of row
+  others ← words_of n word.1
+  Some (word.0 ∷ others)
+
+-- eight registers of a core, from the first
+unfoldable pub registers_row_of : ℕ → ℕ → Row → Option (List ℕ)
+registers_row_of core first row = do
+  title ← field_at (exactly (codes "R")) row
+  key ← field_at (exactly (decimal core)) title.1
+  from ← field_at (exactly (decimal first)) key.1
+  words_of 8 from.1
+
+-- ---- memory words
+
+-- such an address, from a lowest one on
+unfoldable pub address_from : ℕ → ℕ → List ℕ → Option ℕ
+address_from bytes low text = address_of bytes text >>= λ addr. if nat_le low addr then Some addr else None
+
+-- a word that isn't 0
+unfoldable pub some_word_of : List ℕ → Option ℕ
+some_word_of text = word_of text >>= λ n. if nat_le 1 n then Some n else None
+
+-- a memory word that isn't 0, from a lowest address on
+unfoldable pub memory_row_of : ℕ → ℕ → Row → Option MemoryWord
+memory_row_of bytes low row = do
+  title ← field_at (exactly (codes "W")) row
+  addr ← field_at (address_from bytes low) title.1
+  value ← field_at some_word_of addr.1
+  ended (record { addr = addr.0; value = value.0 }) value.1
+
+-- ---- counts
+
+-- the count of this name
+unfoldable pub count_row_of : List ℕ → Row → Option ℕ
+count_row_of name row = do
+  title ← field_at (exactly (codes "N")) row
+  key ← field_at (exactly name) title.1
+  n ← field_at (number_of (2 ^ 64 - 1)) key.1
+  ended n.0 n.1

@@ -1,4 +1,0 @@
-pub mod DigitLemmas
-pub mod ValueLaws
-pub mod RowLaws
-pub mod PlainRowLaws

@@ -1,0 +1,33 @@
+# SB_swap, store buffering in which both stores are cas.
+# cores: 2
+# outcome: 0:$t1 1:$t1
+# allowed: 0 1    core 0 has loaded before core 1 stores
+# allowed: 1 0    core 1 has loaded before core 0 stores
+# allowed: 1 1    both have stored before one loads
+# weaker: 0 0     loads pass an older cas of their core
+        la    $s0, x
+        la    $s1, y
+        li    $s4, 1
+        bne   $a0, $zero, P1
+        nop
+
+P0:     jal   meet
+        nop
+        move  $t2, $zero
+        cas   $t2, $s0, $s4             # x: from 0 to 1; $t2 = what it had
+        jal   pause
+        nop
+        lw    $t1, 0($s1)               # $t1 = y
+        halt
+P1:     jal   meet
+        nop
+        move  $t2, $zero
+        cas   $t2, $s1, $s4             # y: from 0 to 1; $t2 = what it had
+        jal   pause
+        nop
+        lw    $t1, 0($s0)               # $t1 = x
+        halt
+
+        .data 0x200
+x:      .word 0, 0                      # each in a line of its own
+y:      .word 0, 0
