@@ -10,6 +10,13 @@ import time
 TOP = os.path.dirname(os.path.dirname(os.path.abspath(__file__)))
 HALTED, OTHER_END, RIGHT, NOT_WRITTEN = 0, 1, 0, 5
 
+# Cores that load, add and store in one word until their budget is spent: two accesses in six cycles.
+SHARED_WORD = b"""loop: lw $t0, 0x100($zero)
+addiu $t0, $t0, 1
+b loop
+sw $t0, 0x100($zero)
+"""
+
 # The best processor time of many runs, user and system, and the best on the clock, in seconds; and the greatest resident set
 # in KiB.
 Measured = collections.namedtuple("Measured", "processor clock peak")

@@ -16,8 +16,8 @@ use Rattle.kmp_words.specs.declared.input.Refusal.{Refusal}
 use Rattle.kmp_words.specs.declared.input.Refusal.TheVariants.{TooLong}
 use Rattle.kmp_words.specs.declared.order.Order.{Order}
 use Rattle.kmp_words.specs.declared.order.Order.TheVariants as orders
-use Rattle.kmp_call.specs.Outcome.{IsRunDue, report_limit}
-use Rattle.kmp_call.specs.Refused.{refusal_row, too_long_row, bad_row}
+use Rattle.kmp_call.specs.Outcome.{IsRefusalDue, IsRunDue, report_limit}
+use Rattle.kmp_call.specs.Refused.{too_long_row, bad_row}
 use Rattle.kmp_call.specs.declared.status.Status.{Status}
 use Rattle.kmp_call.specs.declared.status.Status.TheVariants as statuses
 use Rattle.kmp.specs.Replay.{agrees_row, difference_row}
@@ -25,7 +25,7 @@ use Rattle.kmp.specs.Replay.{agrees_row, difference_row}
 -- What is due for the image of a source: its bytes, or the row of the refusal.
 abbrev pub IsImageDue : Result ImageValue Refusal → List ℕ → Status → Type 0
 IsImageDue (Ok image) text due = (text ≡ image_bytes image) × (due ≡ statuses.Done)
-IsImageDue (Err refusal) text due = (text ≡ refusal_row refusal) × (due ≡ statuses.InputRefused refusal)
+IsImageDue (Err refusal) text due = IsRefusalDue refusal text due
 
 -- What is due for a report that was read: that it agrees, exactly where it is right, and else its first difference.
 abbrev pub IsVerdictDue : ReportValue → List ℕ → Status → Type 0

@@ -1,65 +1,72 @@
 //! The orders of kmp: a run in turns, the image of a source, and the check of a report.
-ghost use Rattle.std.specs.Prelude.{◌≡◌, ◌⊎◌, ◌*◌, ◌<◌, ◌≤◌, List, ℕ, length, Ok, IfOk};
+ghost use Rattle.std.specs.Prelude.{◌≡◌, ◌⊎◌, ◌≤◌, length, Ok};
 ghost use Rattle.report_text.specs.Form.{IsReport};
 ghost use Rattle.report_text.specs.Text.{report_text};
 ghost use Rattle.image_file.specs.Value.{image_bytes};
 ghost use Rattle.kmp_words.specs.Input.{limit_of, meaning_of};
 ghost use Rattle.kmp_words.specs.Loaded.{image_in};
-ghost use Rattle.kmp_words.specs.Words.{IsProperInput};
+ghost use Rattle.kmp_words.specs.Words.{IsProperInput, IsRunnable, IsRunnableSetup};
 ghost use Rattle.kmp_words.specs.declared.program.Program.TheVariants as programs;
-ghost use Rattle.kmp_call.specs.Outcome.{report_limit, Answers, Finishes, RunsOut, Ends};
-ghost use Rattle.kmp_call.specs.Told.{TellsInput};
+ghost use Rattle.kmp_call.specs.Outcome.{input_limit, report_limit, Answers, Finishes, RunsOut, Ends, IsRunDue};
+ghost use Rattle.kmp_call.specs.Told.{Tells, TellsInput};
 ghost use Rattle.kmp_call.specs.declared.status.Status.TheVariants.{Done};
 ghost use Rattle.kmp.specs.Outcome.{IsImageDue, IsVerdictDue, IsCheckDue, IsDue};
-ghost use Rattle.kmp.specs.Status.{is_of_input};
 
 use crate::verdict;
 use core_run::run_serial;
 use image_file::{Image, write_image};
-use kmp_base::{InputFault, NoMemory, Setup, Sink, Source, read_input};
-use kmp_call::{
-    Ending, Executor, Runner, Status, obey_run, refuse_input, refuse_report, write_row,
-};
-use kmp_words::{Input, LoadFault, Loaded, Order, Program, Refusal, load};
+use kmp_base::{InputFault, Setup, Sink, Source, read_input};
+use kmp_call::{Ending, Status, end_unloaded, refuse_input, refuse_report, write_row, write_run};
+use kmp_words::{Input, Loaded, Order, Refusal, load};
 use replayer::{Verdict, check};
 use report_read::{REPORT_LIMIT, ReportFault, read_report};
 use report_text::Report;
 use std::alloc::Global;
-use timetable::Outcome;
 
-/// What carries out the orders of kmp.
-pub struct Kmp;
-
-impl Runner for Kmp {
-    ghost program = { programs.Kmp };
-
-    fn program(&self) -> Program {
-        Program::Kmp
-    }
-
-    fn run(&self, alloc: Global, image: &Image, setup: &Setup) -> Result<Outcome, NoMemory> {
-        run_serial(alloc, image, setup)
+/// Reads the input of an order and carries the order out, or refuses the input. Nothing is written
+/// before all memory was taken.
+pub fn obey<S: Source, K: Sink>(
+    alloc: Global,
+    order: &Order,
+    source: &mut S,
+    sink: &mut K,
+) -> Ending
+    requires runnable { IsRunnable programs.Kmp order.now }
+    ensures ends { Ends S.left S.faults K.held K.faults (input_limit order.now) (IsDue order.now)
+        source.old source.new sink.old sink.new result.status }
+    ensures tells { Tells S.left S.faults (Ok order.now) source.old source.new sink.old sink.new result.status result.split.items }
+{
+    match order {
+        Order::Run { setup, input } => obey_run(alloc, setup, *input, source, sink),
+        Order::Asm { memory_lines } => obey_asm(alloc, *memory_lines, source, sink),
+        Order::Replay => Ending::of(alloc, obey_replay(alloc, source, sink)),
     }
 }
 
-impl Executor for Kmp {
-    ghost is_due = { IsDue };
-
-    fn obey<S: Source, K: Sink>(
-        &self,
-        alloc: Global,
-        order: &Order,
-        source: &mut S,
-        sink: &mut K,
-    ) -> Ending {
-        match order {
-            Order::Run { setup, input } => obey_run(self, alloc, setup, *input, source, sink),
-            Order::Asm { memory_lines } => obey_asm(alloc, *memory_lines, source, sink),
-            Order::Replay => Ending::of(alloc, obey_replay(alloc, source, sink)),
+// Reads an input and runs it in turns, or refuses it.
+fn obey_run<S: Source, K: Sink>(
+    alloc: Global,
+    setup: &Setup,
+    input: Input,
+    source: &mut S,
+    sink: &mut K,
+) -> Ending
+    requires runnable { IsRunnableSetup programs.Kmp setup.now }
+    requires proper { IsProperInput input }
+    ensures ends { Ends S.left S.faults K.held K.faults (limit_of input) (λ bytes. IsRunDue setup.now (image_in (meaning_of input bytes)))
+        source.old source.new sink.old sink.new result.status }
+    ensures tells { TellsInput S.left S.faults input source.old source.new sink.old sink.new result.status result.split.items }
+{
+    match load(alloc, source, input) {
+        Ok(Loaded { image, split }) => {
+            let ran = run_serial(alloc, &image, setup);
+            Ending {
+                status: write_run(alloc, setup, image, ran, sink),
+                split,
+            }
         }
+        Err(fault) => end_unloaded(alloc, fault, sink),
     }
-
-    ghost of_input = { is_of_input };
 }
 
 // Writes the bytes of an image.
@@ -86,9 +93,7 @@ fn obey_asm<S: Source, K: Sink>(
             status: write(&image, sink),
             split,
         },
-        Err(LoadFault::Refused(refusal)) => Ending::of(alloc, refuse_input(refusal, sink)),
-        Err(LoadFault::Read) => Ending::of(alloc, Status::ReadFault),
-        Err(LoadFault::Memory) => Ending::of(alloc, Status::NoMemory),
+        Err(fault) => end_unloaded(alloc, fault, sink),
     }
 }
 

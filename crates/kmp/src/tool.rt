@@ -9,9 +9,10 @@ ghost use Rattle.kmp_call.specs.Told.{Tells};
 ghost use Rattle.kmp_call.specs.declared.status.Status.{Status};
 ghost use Rattle.kmp.specs.Outcome.{IsDue};
 
-use crate::obey::Kmp;
+use crate::obey::obey;
 use kmp_base::{Sink, Source};
-use kmp_call::{Ending, Status, call};
+use kmp_call::{Ending, Status, begin_call, end_call, refuse_words};
+use kmp_words::{Program, read_words};
 use std::alloc::Global;
 
 /// Does all that the program does with the words that it was given, writes what is due in long
@@ -32,7 +33,24 @@ pub fn answer<S: Source, K: Sink>(
     ensures withheld { IfErr words.now (λ status. (result.0.status ≡ status) × (result.0.split.items ≡ [])
         × (source.new ≡ source.old) × (result.1 ≡ sink)) }
 {
-    kmp_call::answer(&Kmp, alloc, words, source, sink)
+    match begin_call(alloc, words, Program::Kmp, sink) {
+        Ok((order, mut collected)) => {
+            let ending = obey(alloc, &order, source, &mut collected);
+            end_call(ending, collected)
+        }
+        Err((status, sink)) => (Ending::of(alloc, status), sink),
+    }
+}
+
+/// The same over a sink that doesn't collect, by the status alone.
+fn call<S: Source, K: Sink>(alloc: Global, words: &[&str], source: &mut S, sink: &mut K) -> Status
+    ensures obeys { IsCall S.left S.faults K.held K.faults IsDue (words_meaning programs.Kmp (texts_of words.now))
+        source.old source.new sink.old sink.new result }
+{
+    match read_words(words, Program::Kmp) {
+        Ok(order) => obey(alloc, &order, source, sink).status,
+        Err(fault) => refuse_words(fault, sink),
+    }
 }
 
 /// The status of a call over a sink that doesn't collect, as a number.
@@ -40,5 +58,5 @@ pub fn tool<S: Source, K: Sink>(alloc: Global, words: &[&str], source: &mut S, s
     ensures obeys { (status : Status) × (result ≡ code_of status)
         × IsCall S.left S.faults K.held K.faults IsDue (words_meaning programs.Kmp (texts_of words.now)) source.old source.new sink.old sink.new status }
 {
-    call(&Kmp, alloc, words, source, sink).status.code()
+    call(alloc, words, source, sink).code()
 }

@@ -9,7 +9,7 @@ use Rattle.kmp_words.specs.declared.fault.WordFault.{WordFault}
 use Rattle.kmp_words.specs.declared.input.Refusal.{Refusal}
 use Rattle.kmp_words.specs.declared.order.Order.{Order}
 use Rattle.kmp_call.specs.Call.{IsCall}
-use Rattle.kmp_call.specs.Outcome.{input_limit, Answers, Fulfils, IsUnfulfilled, Ends, IsRunDue}
+use Rattle.kmp_call.specs.Outcome.{input_limit, Answers, Fulfils, LacksMemory, IsUnfulfilled, Ends, IsRunDue}
 use Rattle.kmp_call.specs.Refused.{word_row}
 use Rattle.kmp_call.specs.Status.{code_of, after_write, IsOfInput}
 use Rattle.kmp_call.specs.declared.status.Status.{Status}
@@ -142,6 +142,14 @@ module _ {S K : Type 0} (left : S → Option (List ℕ)) (read_faults : S → �
     handed_over = told.handed_over;
   }
 
+  lacking_call : (order : Order) → LacksMemory read_faults source source' sink sink' status
+      → IsCall left read_faults held write_faults IsDue (Ok order) source source' sink sink' status
+  lacking_call order lack =
+      let code = ap code_of lack.out.status_is in
+      unfulfilled_call order (inr lack) (inr code) lack.out.sink_kept
+      (unfailed _ _ _ _ _ (λ is. omega (arith, code, is)) (λ is. omega (arith, code, is)) (λ is. omega (arith, code, is)) lack.no_fault
+      (ap write_faults lack.out.sink_kept))
+
   pub obeyed_call : (order : Order) → ((bytes text : List ℕ) (due : Status) → IsDue order bytes text due → IsOfInput due)
       → Ends left read_faults held write_faults (input_limit order) (IsDue order) source source' sink sink' status
       → IsCall left read_faults held write_faults IsDue (Ok order) source source' sink sink' status
@@ -150,9 +158,7 @@ module _ {S K : Type 0} (left : S → Option (List ℕ)) (read_faults : S → �
     | inr failed ↦ elim failed [
       | inl read ↦ let code = ap code_of read.status_is in unfulfilled_call order (inl read) (inl code) read.sink_kept
           (failed_to_read _ _ _ _ _ code read.cause (ap write_faults read.sink_kept))
-      | inr lack ↦ let code = ap code_of lack.out.status_is in unfulfilled_call order (inr lack) (inr code) lack.out.sink_kept
-          (unfailed _ _ _ _ _ (λ is. omega (arith, code, is)) (λ is. omega (arith, code, is)) (λ is. omega (arith, code, is)) lack.no_fault
-          (ap write_faults lack.out.sink_kept))
+      | inr lack ↦ lacking_call order lack
     ]
   ]
 

@@ -1,5 +1,6 @@
-pub mod BeneathLemmas
+pub mod BeneathLaws
 pub mod CallLaws
 pub mod InputLaws
 pub mod RunLemmas
 pub mod StatusLemmas
+pub mod WordLaws

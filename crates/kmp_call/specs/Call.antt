@@ -1,11 +1,13 @@
 -- A call of a program: what it answers and leaves, by what its words ask for.
-use Rattle.std.specs.Prelude.{◌≡◌, ◌≢◌, ◌⊎◌, ℕ, ◌<◌, List, Option, Result, IfOk, IfErr, IsErr}
-use Rattle.kmp_base.specs.Streams.{Rose}
+use Rattle.std.specs.Prelude.{◌≡◌, ◌≢◌, ◌⊎◌, ℕ, ◌<◌, List, [], Option, Result, Ok, Err, IfOk, IfErr, IsOk, IsErr}
+use Rattle.kmp_base.specs.Streams.{Rose, Writes}
+use Rattle.kmp_base.specs.declared.collected.Collected.{Collected}
+use Rattle.kmp_base.specs.declared.transfer.WriteFault.{WriteFault}
 use Rattle.kmp_words.specs.declared.fault.WordFault.{WordFault}
 use Rattle.kmp_words.specs.declared.order.Order.{Order}
-use Rattle.kmp_call.specs.Outcome.{input_limit, Answers, Fulfils, Ends}
+use Rattle.kmp_call.specs.Outcome.{input_limit, Answers, Fulfils, Ends, RunsOut}
 use Rattle.kmp_call.specs.Refused.{word_row}
-use Rattle.kmp_call.specs.Status.{code_of}
+use Rattle.kmp_call.specs.Status.{code_of, after_write}
 use Rattle.kmp_call.specs.declared.status.Status.{Status}
 use Rattle.kmp_call.specs.declared.status.Status.TheVariants.{WordsRefused}
 
@@ -35,3 +37,16 @@ pub record IsCall {S K : Type 0} (left : S → Option (List ℕ)) (read_faults :
   pub unwritten : (code_of status ≡ 4) ⊎ (code_of status ≡ 6) → sink' ≡ sink
   -- The words were handed over.
   pub handed_over : code_of status ≢ 8
+
+-- A call that is over before its order is carried out: its words were refused, or there is no memory to collect what is written.
+abbrev pub IsOver : {K : Type 0} → (K → Option (List ℕ)) → (K → ℕ) → Result Order WordFault → K → K → Status → Type 0
+IsOver held faults (Err fault) sink sink' status = Answers held faults sink sink' (word_row fault) (WordsRefused fault) status
+IsOver held faults (Ok order) sink sink' status = RunsOut sink sink' status
+
+-- What was collected is put beneath, where nothing is put if nothing was collected; the status is the one before, or a write fault.
+pub record IsPut {K : Type 0} (held : K → Option (List ℕ)) (faults : K → ℕ) (collected : Collected K) (sink : K) (status status' : Status)
+    : Type 0 where
+  pub result : Result (Unit {0}) WriteFault
+  pub writes : Writes held faults collected.sink sink result collected.waiting.items
+  pub no_call : collected.waiting.items ≡ [] → IsOk result × (sink ≡ collected.sink)
+  pub status_is : status' ≡ after_write status result

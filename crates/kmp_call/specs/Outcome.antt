@@ -8,6 +8,8 @@ use Rattle.report_text.specs.Report.{ReportValue}
 use Rattle.report_text.specs.Text.{report_text}
 use Rattle.kmp_words.specs.Input.{limit_of, ReadsAll}
 use Rattle.kmp_words.specs.declared.input.Input.TheVariants as inputs
+use Rattle.kmp_words.specs.declared.input.LoadFault.{LoadFault}
+use Rattle.kmp_words.specs.declared.input.LoadFault.TheVariants as loads
 use Rattle.kmp_words.specs.declared.input.Refusal.{Refusal}
 use Rattle.kmp_words.specs.declared.order.Order.{Order}
 use Rattle.kmp_words.specs.declared.order.Order.TheVariants as orders
@@ -17,12 +19,16 @@ use Rattle.kmp_call.specs.Status.{status_of, after_write}
 use Rattle.kmp_call.specs.declared.status.Status.{Status}
 use Rattle.kmp_call.specs.declared.status.Status.TheVariants as statuses
 
+-- What is due for an input that means no image: the row of its refusal.
+abbrev pub IsRefusalDue : Refusal → List ℕ → Status → Type 0
+IsRefusalDue refusal text due = (text ≡ refusal_row refusal) × (due ≡ statuses.InputRefused refusal)
+
 -- What is due for the run of what was loaded: the text of a right report and the status of its ends, or the row of the
 -- refusal.
 abbrev pub IsRunDue : Setup → Result ImageValue Refusal → List ℕ → Status → Type 0
 IsRunDue setup (Ok image) text due =
     (report : ReportValue) × IsReportOf setup image report × (text ≡ report_text report) × (due ≡ status_of report)
-IsRunDue setup (Err refusal) text due = (text ≡ refusal_row refusal) × (due ≡ statuses.InputRefused refusal)
+IsRunDue setup (Err refusal) text due = IsRefusalDue refusal text due
 
 -- A text was written, and the status is the one that is due, or a write fault.
 pub record Answers {K : Type 0} (held : K → Option (List ℕ)) (faults : K → ℕ) (old new : K) (text : List ℕ) (due status : Status) : Type 0
@@ -43,6 +49,13 @@ pub record Finishes {K : Type 0} (held : K → Option (List ℕ)) (faults : K �
 pub record RunsOut {K : Type 0} (old new : K) (status : Status) : Type 0 where
   pub sink_kept : new ≡ old
   pub status_is : status ≡ statuses.NoMemory
+
+-- How a call ends whose input has no program: its refusal was written, or nothing, where a read failed or memory ran out.
+abbrev pub EndsUnloaded : {K : Type 0} → (K → Option (List ℕ)) → (K → ℕ) → LoadFault → K → K → Status → Type 0
+EndsUnloaded held faults (loads.Refused refusal) old new status =
+    Answers held faults old new (refusal_row refusal) (statuses.InputRefused refusal) status
+EndsUnloaded held faults loads.Read old new status = (new ≡ old) × (status ≡ statuses.ReadFault)
+EndsUnloaded held faults loads.Memory old new status = RunsOut old new status
 
 -- the most bytes of a report that is checked
 abbrev pub report_limit : ℕ

@@ -1,7 +1,7 @@
 use Rattle.std.proofs.Common.{refl, inl}
 use Rattle.report_text.specs.Text.{report_text}
 use Rattle.kmp_call.specs.Status.{status_of}
-use Rattle.kmp_call.proofs.run.run.Goals as goal
+use Rattle.kmp_call.proofs.run.write_run.Goals as goal
 
 pub returns-in-Ok : goal.returns-in-Ok
 returns-in-Ok g c = record {
