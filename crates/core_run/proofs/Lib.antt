@@ -10,7 +10,10 @@ pub mod EndLaws
 pub mod DoneLaws
 pub mod TurnLemmas
 pub mod RunningLaws
+pub mod ServedLemmas
 pub mod RoundLemmas
 pub mod RunLemmas
+pub mod DrawLemmas
+pub mod SeededLemmas
 pub mod PlainEndLaws
 pub mod RunLaws

@@ -10,26 +10,24 @@ use Rattle.std.proofs.lemmas.List.{append-nil, length-append, length-map}
 use Rattle.std_laws.proofs.ListLaws.{slice_get_some}
 use Rattle.kmp_base.specs.declared.setup.Setup.{Setup}
 use Rattle.kmp_base.specs.declared.setup.MachineKind.TheVariants as machines
-use Rattle.kmp_base.specs.declared.setup.Turns.TheVariants as turns
 use Rattle.image_file.specs.Value.{ImageValue}
 use Rattle.access_log.specs.declared.Entry.{Entry}
-use Rattle.access_log.specs.declared.Item.{Item}
 use Rattle.access_log.specs.Items.{entries}
 use Rattle.access_log.specs.Replay.{own}
-use Rattle.access_log.specs.Stamps.{Stamp, own_stamps, IsRising}
+use Rattle.access_log.specs.Stamps.{Stamp, own_stamps}
 use Rattle.access_log.proofs.StampLaws.{own-stamps}
 use Rattle.timetable.specs.declared.CoreEnd.{CoreEnd}
 use Rattle.timetable.specs.Outcome.{OutcomeValue}
 use Rattle.right_run.specs.Right.{IsRight}
-use Rattle.right_run.specs.Turns.{in_cycles, IsInRounds, IsInTurns}
-use Rattle.right_run.proofs.PlainLaws.{right-from_plain, turns-rounds}
+use Rattle.right_run.specs.Turns.{in_cycles}
+use Rattle.right_run.proofs.PlainLaws.{right-from_plain}
 use Rattle.mem_port.specs.Engine.{EngineView}
 use Rattle.mem_port.specs.Memory.{MemoryView, IsFresh, IsAtOnce}
 use Rattle.mem_port.specs.ServiceHistory.{ServiceHistory, IsFirstHistory}
 use Rattle.core_run.specs.Lanes.{IsStarted, IsClosed}
 use Rattle.core_run.specs.PlainView.{in_own_cycles, plain_view, IsPlainHistory}
 use Rattle.core_run.specs.Outcomes.{IsStartSlot, IsRun, IsEngineOf, EndsServed, NoneWaited}
-use Rattle.core_run.specs.Serial.{AreInTurns, IsServedRun}
+use Rattle.core_run.specs.Serial.{AreReceived, IsServedRun}
 use Rattle.core_run.specs.declared.plain.Plain.{Plain}
 use Rattle.core_run.specs.declared.serial.CoreSlot.{CoreSlot}
 use Rattle.core_run.proofs.PlainEndLaws.{IsUnstalledEnd, unstalled-end}
@@ -92,15 +90,14 @@ own-cycles-of cores stamps within own_cycles core (inr out) =
     let none = own-none (map entry_in stamps) cores core within out in
     record { are = none-mapped _ (sym (own-stamps stamps core) ∙ none) ∙ sym (ap (in_own_cycles 0) none) }
 
--- Accesses in turns, of cores that each make them in their own cycles.
-in-turns : (cores rounds turn : ℕ) (items : List Item) (stamps : List Stamp) → AreInTurns rounds turn items stamps
-    → AllByRecursion (λ entry. entry.core < cores) (entries items)
+-- Accesses of cores that each make them in their own cycles are in the cycles of the whole order.
+received-cycles : (cores : ℕ) (order : List Entry) (stamps : List Stamp) → map entry_in stamps ≡ order
+    → AllByRecursion (λ entry. entry.core < cores) order
     → ((core : ℕ) → core < cores → own_stamps stamps core ≡ in_own_cycles 0 (map entry_in (own_stamps stamps core)))
-    → IsInRounds (entries items)
-in-turns cores rounds turn items stamps h within own_cycles =
-    let inside = subst (AllByRecursion (λ (entry : Entry). entry.core < cores)) (sym h.are) within in
-    let same = in-cycles [] stamps (λ core. own-cycles-of cores stamps inside own_cycles core (cases_lt core cores)) in
-    subst (λ order. IsRising (in_cycles [] order)) h.are (subst IsRising same h.rising)
+    → stamps ≡ in_cycles [] order
+received-cycles cores order stamps are within own_cycles =
+    let inside = subst (AllByRecursion (λ (entry : Entry). entry.core < cores)) (sym are) within in
+    in-cycles [] stamps (λ core. own-cycles-of cores stamps inside own_cycles core (cases_lt core cores)) ∙ ap (in_cycles []) are
 
 abbrev pub view_of : Plain → EngineView
 view_of e = plain_view e.image.now e.core e.cores e.state e.executed e.phase e.clocks_left
@@ -162,13 +159,13 @@ module _ (setup : Setup) (image : ImageValue) (outcome : OutcomeValue) (historie
     no_rows = λ core ended got. (each core ended got).1.1.1.0;
   })
 
-  run-turns : (stamps : List Stamp) → AreInTurns setup.budget 0 outcome.items stamps
-      → ((core : ℕ) → core < setup.cores → (histories core).service.accesses ≡ own_stamps stamps core)
-      → IsInRounds (entries outcome.items)
-  run-turns stamps turns received = in-turns setup.cores setup.budget 0 outcome.items stamps turns run.within
+  run-ordered : (in_order : List Stamp → Type 0) → AreReceived in_order outcome.items histories
+      → in_order (in_cycles [] (entries outcome.items))
+  run-ordered in_order received = subst in_order (received-cycles setup.cores (entries outcome.items) received.stamps received.are run.within
       (λ core in_range.
       (let some = slice_get_some outcome.cores core (omega (arith, run.count)) in
-      subst (λ (own : List Stamp). own ≡ in_own_cycles 0 (map entry_in own)) (received core in_range) (end-at core some.0 some.1).cycles))
+      subst (λ (own : List Stamp). own ≡ in_own_cycles 0 (map entry_in own)) (received.received core) (end-at core some.0 some.1).cycles)))
+      received.ordered
 
 -- A run on a memory that was fresh, of the words of its setup.
 pub run-fresh : (image : ImageValue) (cores budget : ℕ) (m : MemoryView) (outcome : OutcomeValue) → IsFresh image cores budget None m
@@ -186,15 +183,13 @@ ends-unstalled image cores budget m outcome histories fresh once count served wa
 )
 
 -- What a run in turns is, on a memory that answers each request as it is served.
-pub run-unstalled : (setup : Setup) (image : ImageValue) (m : MemoryView) (outcome : OutcomeValue) (histories : ℕ → ServiceHistory)
-    → setup.machine ≡ machines.Plain → setup.turns ≡ turns.Round → IsFresh image setup.cores setup.budget None m → IsAtOnce m
-    → IsRun m.image m.cores setup.budget m.caches outcome → IsServedRun view_of (λ e. []) times_of m setup.budget outcome histories
-    → IsRight setup image outcome × IsInTurns setup (entries outcome.items)
-run-unstalled setup image m outcome histories plain round fresh once run served =
+pub run-unstalled : (setup : Setup) (image : ImageValue) (m : MemoryView) (in_order : List Stamp → Type 0) (outcome : OutcomeValue)
+    (histories : ℕ → ServiceHistory) → setup.machine ≡ machines.Plain → IsFresh image setup.cores setup.budget None m → IsAtOnce m
+    → IsRun m.image m.cores setup.budget m.caches outcome → IsServedRun view_of (λ e. []) times_of m in_order outcome histories
+    → IsRight setup image outcome × in_order (in_cycles [] (entries outcome.items))
+run-unstalled setup image m in_order outcome histories plain fresh once run served =
     let at_once = served.at_once once in
     let same = run-fresh image setup.cores setup.budget m outcome fresh run in
     let each = ends-unstalled image setup.cores setup.budget m outcome histories fresh once same.count served.ends
     (λ core within. at_once.waited core (rw fresh.cores_are within)) in
-    let order = run-turns setup image outcome histories same each at_once.stamps at_once.turns
-    (λ core within. at_once.received core (rw fresh.cores_are within)) in
-    (run-right setup image outcome histories same each plain, turns-rounds setup (entries outcome.items) plain round order)
+    (run-right setup image outcome histories same each plain, run-ordered setup image outcome histories same each in_order at_once.received)

@@ -60,7 +60,7 @@ executed-one core (Some r) None = omega arith
 executed-one core (Some r) (Some word) = omega arith
 
 -- A core without an end runs on.
-pub is-on : {budget : ℕ} {s : SideView} {e : EngineView} {lane : Lane} {cycles : ℕ} (end : Option End) → is_some end ≡ false
+pub is-on : {budget : ℕ} {s : SideView} {e : EngineView} {lane : Lane} {cycles : ℕ} (end : Option End) → end ≡ None
     → IsOnOrOver end budget s e lane cycles → IsOn budget s e lane cycles
 is-on None none h = h
 is-on (Some end) none h = cc

@@ -17,7 +17,7 @@ use Rattle.core_run.specs.Cycle.{wait_left}
 use Rattle.core_run.specs.Lanes.{IsCoupled, IsFinished, IsNoTighter}
 use Rattle.core_run.specs.Running.{IsOnOrOver, IsServedAt}
 use Rattle.core_run.specs.Outcomes.{IsStartSlot}
-use Rattle.core_run.specs.Serial.{SlotAt}
+use Rattle.core_run.specs.Serial.{IsSlotOf}
 use Rattle.core_run.proofs.StartLaws.{fresh-unused, start-on}
 
 -- While other cores go on, no request is put off.
@@ -74,13 +74,10 @@ module _ (turn : ℕ) (old new : MemoryView) (left : LeavesOthers turn old new) 
   holds-kept (Some end) budget e lane cycles ne h =
       record { finished = finished-kept e lane.core ne h.finished; runs = rw (left.taken lane.core ne) h.runs; fits = h.fits }
 
-  pub slot-kept : (core rounds budget : ℕ) (e : EngineView) (lane : Lane) (end : Option End) (cycles : ℕ) → core ≢ turn
-      → SlotAt core rounds budget old e lane end cycles → SlotAt core rounds budget new e lane end cycles
-  slot-kept core rounds budget e lane end cycles ne h = record {
-    lane_is = h.lane_is;
-    holds = holds-kept end budget e lane cycles (λ is. ne (sym h.lane_is ∙ is)) h.holds;
-    count = h.count;
-  }
+  pub slot-kept : (core budget : ℕ) (e : EngineView) (lane : Lane) (end : Option End) (cycles : ℕ) → core ≢ turn
+      → IsSlotOf core budget old e lane end cycles → IsSlotOf core budget new e lane end cycles
+  slot-kept core budget e lane end cycles ne h =
+      record { lane_is = h.lane_is; holds = holds-kept end budget e lane cycles (λ is. ne (sym h.lane_is ∙ is)) h.holds }
 
   remaining_wait-left : (told : IsTrue old.tells_distances) (q : Port) → core_of q ≢ turn
       → remaining_wait_of (new.port q) (new.distance q) ≤ remaining_wait_of (old.port q) (old.distance q)
@@ -118,12 +115,11 @@ module _ (turn : ℕ) (old new : MemoryView) (left : LeavesOthers turn old new) 
 pub start-slot : (core budget : ℕ) (m : MemoryView) (e : EngineView) (lane : Lane) (end : Option End) (cycles : ℕ) → 1 ≤ budget
     → core < m.cores
     → IsFresh m.image m.cores budget m.caches m → IsStartSlot m.image core m.cores budget e lane end cycles
-    → SlotAt core 0 budget m e lane end cycles
+    → IsSlotOf core budget m e lane end cycles
 start-slot core budget m e lane end cycles some within fresh h =
     let unused = fresh-unused m lane.core budget (rw h.lane_is within) fresh in
     record {
       lane_is = h.lane_is;
       holds = rw (h.no_end, h.no_cycle)
           (start-on m.image core m.cores budget (side_of m lane.core) e lane end cycles some unused refl refl h);
-      count = λ none. h.no_cycle;
     }

@@ -3,15 +3,12 @@ use Rattle.std.proofs.Common.{◌≡◌, ◌≢◌, ℕ, ◌+◌, ◌≤◌, inl
 use Rattle.std.specs.Prelude.{map}
 use Rattle.std.specs.List.{AllByRecursion}
 use Rattle.std.proofs.lemmas.Bool.{eq-eqb, ne_eqb}
-use Rattle.std.proofs.lemmas.List.{map-append}
 use Rattle.std.proofs.lemmas.List.Elements.{filter-append}
 use Rattle.std_laws.proofs.ListLaws.{AllByRecursion-append, AllByRecursion-weaker}
 use Rattle.access_log.specs.declared.Entry.{Entry}
-use Rattle.access_log.specs.declared.Item.{Item}
-use Rattle.access_log.specs.Items.{entries}
 use Rattle.access_log.specs.Stamps.{Stamp, stamped, own_stamps, Precedes, IsRising}
 use Rattle.access_log.proofs.StampLaws.{IsRising-append}
-use Rattle.core_run.specs.Serial.{AddsOwn, IsEarlier, AreInTurns}
+use Rattle.core_run.specs.Serial.{IsEarlier, AreInRounds}
 
 -- Those of one cycle, where all entries are of one core.
 
@@ -44,8 +41,8 @@ entries-stamped cycle [] = refl
 entries-stamped cycle (entry ∷ more) = ap (λ t. entry ∷ t) (entries-stamped cycle more)
 
 -- At the start there is none.
-pub in-turns-start : (items : List Item) → items ≡ [] → AreInTurns 0 0 items []
-in-turns-start items none = record { are = sym (ap entries none); rising = tt; earlier = tt }
+pub in-rounds-start : AreInRounds 0 0 []
+in-rounds-start = record { rising = tt; earlier = tt }
 
 -- A turn adds at most one, behind those of the turns before.
 
@@ -73,15 +70,14 @@ earlier-turn : (rounds turn : ℕ) (more : List Entry) → AllByRecursion (λ (e
 earlier-turn rounds turn [] own = tt
 earlier-turn rounds turn (entry ∷ more) own = (let is = own.0 in inr (refl, omega (arith, is)), earlier-turn rounds turn more own.1)
 
-pub after-turn : (rounds turn : ℕ) (old new : List Item) (stamps : List Stamp) (more : List Entry) → AddsOwn turn more old new
-    → AreInTurns rounds turn old stamps
-    → AreInTurns rounds (turn + 1) new (stamps ++ stamped (rounds + 1) more)
-after-turn rounds turn old new stamps more adds h = record {
-  are = map-append _ stamps (stamped (rounds + 1) more) ∙ rw (h.are, entries-stamped (rounds + 1) more) (sym adds.added);
-  rising = rising-turn rounds turn stamps more adds.one adds.own h.rising h.earlier;
+pub after-turn : (rounds turn : ℕ) (stamps : List Stamp) (more : List Entry) → length more ≤ 1
+    → AllByRecursion (λ (e : Entry). e.core ≡ turn) more → AreInRounds rounds turn stamps
+    → AreInRounds rounds (turn + 1) (stamps ++ stamped (rounds + 1) more)
+after-turn rounds turn stamps more one own h = record {
+  rising = rising-turn rounds turn stamps more one own h.rising h.earlier;
   earlier = AllByRecursion-append (IsEarlier rounds (turn + 1)) stamps (stamped (rounds + 1) more)
       (AllByRecursion-weaker (IsEarlier rounds turn) (IsEarlier rounds (turn + 1)) (earlier-more rounds turn) stamps h.earlier)
-      (earlier-turn rounds turn more adds.own);
+      (earlier-turn rounds turn more own);
 }
 
 earlier-round : (rounds turn : ℕ) (s : Stamp) → IsEarlier rounds turn s → IsEarlier (rounds + 1) 0 s
@@ -89,10 +85,8 @@ earlier-round rounds turn s (inl before) = inl (omega arith)
 earlier-round rounds turn s (inr here) = let is = here.0 in inl (omega (arith, is))
 
 -- A round is behind when all turns are.
-pub after-round : (rounds turn : ℕ) (items : List Item) (stamps : List Stamp) → AreInTurns rounds turn items stamps
-    → AreInTurns (rounds + 1) 0 items stamps
-after-round rounds turn items stamps h = record {
-  are = h.are;
+pub after-round : (rounds turn : ℕ) (stamps : List Stamp) → AreInRounds rounds turn stamps → AreInRounds (rounds + 1) 0 stamps
+after-round rounds turn stamps h = record {
   rising = h.rising;
   earlier = AllByRecursion-weaker (IsEarlier rounds turn) (IsEarlier (rounds + 1) 0) (earlier-round rounds turn) stamps h.earlier;
 }

@@ -6,3 +6,4 @@ pub mod PlainUses
 pub mod Running
 pub mod Outcomes
 pub mod Serial
+pub mod Seeded

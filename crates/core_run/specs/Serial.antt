@@ -1,6 +1,8 @@
 -- Cores that have their cycles in turn.
 use Rattle.std.specs.Prelude.{◌≡◌, ℕ, ◌+◌, ◌<◌, ◌≤◌, ◌⊎◌, Bool, Option, Some, None, List, ◌++◌, length, slice_get, map, flat_map}
 use Rattle.std.specs.List.{AllByRecursion}
+use Rattle.kmp_base.specs.declared.setup.Turns.{Turns}
+use Rattle.kmp_base.specs.declared.setup.Turns.TheVariants.{Round, Seeded}
 use Rattle.access_log.specs.declared.Entry.{Entry}
 use Rattle.access_log.specs.declared.Item.{Item}
 use Rattle.access_log.specs.Items.{entries}
@@ -18,13 +20,21 @@ use Rattle.core_run.specs.declared.serial.CoreSlot.{CoreSlot}
 use Rattle.core_run.specs.Running.{IsOnOrOver, AreOfCycle, IsServedAt}
 use Rattle.core_run.specs.Outcomes.{EndsServed, NoneWaited}
 
--- What holds of the slot of a core between the turns, where it has had its turn in so many rounds.
-pub record SlotAt (core rounds budget : ℕ) (m : MemoryView) (e : EngineView) (lane : Lane) (end : Option End) (cycles : ℕ) : Type 0 where
+-- Turns that cores have one after the other, without threads.
+abbrev pub IsSerial : Turns → Type 0
+IsSerial turns = (turns ≡ Round) ⊎ (turns ≡ Seeded)
+
+-- What holds of the slot of a core between cycles.
+pub record IsSlotOf (core budget : ℕ) (m : MemoryView) (e : EngineView) (lane : Lane) (end : Option End) (cycles : ℕ) : Type 0 where
   pub lane_is : lane.core ≡ core
   pub holds : IsOnOrOver end budget (side_of m lane.core) e lane cycles
+
+-- And where it has had its turn in so many rounds.
+pub record SlotAt (core rounds budget : ℕ) (m : MemoryView) (e : EngineView) (lane : Lane) (end : Option End) (cycles : ℕ) : Type 0 where
+  pub slot : IsSlotOf core budget m e lane end cycles
   pub count : end ≡ None → cycles ≡ rounds
 
--- The calls of a turn: those of a cycle of a core, with the choice 0, and those of its end, where it ends by that.
+-- The calls of a turn in a round: those of a cycle of a core, with the choice 0, and those of its end, where it ends by that.
 abbrev pub IsTurn : List Call → Type 0
 IsTurn calls = (core : ℕ) × ((is_last : Bool) × AreOfCycle core 0 is_last calls)
 
@@ -42,9 +52,8 @@ pub record AddsOwn (core : ℕ) (more : List Entry) (old new : List Item) : Type
 abbrev pub IsEarlier : ℕ → ℕ → Stamp → Type 0
 IsEarlier rounds turn stamp = (stamp.cycle ≤ rounds) ⊎ ((stamp.cycle ≡ rounds + 1) × (stamp.entry.core < turn))
 
--- The accesses, each in the cycle in which its core received it, rise: behind so many rounds, and so many turns of the next.
-pub record AreInTurns (rounds turn : ℕ) (items : List Item) (stamps : List Stamp) : Type 0 where
-  pub are : map (λ (stamp : Stamp). stamp.entry) stamps ≡ entries items
+-- Accesses, each in the cycle in which its core received it, rise: behind so many rounds, and so many turns of the next.
+pub record AreInRounds (rounds turn : ℕ) (stamps : List Stamp) : Type 0 where
   pub rising : IsRising stamps
   pub earlier : AllByRecursion (IsEarlier rounds turn) stamps
 
@@ -59,29 +68,29 @@ abbrev pub AreAt : {E : Type 0} → (E → EngineView) → ℕ → ℕ → Memor
 AreAt {E} view rounds budget m slots = (core : ℕ) (s : CoreSlot E) → slice_get slots core ≡ Some s
     → SlotAt core rounds budget m (view s.engine) s.lane s.end s.cycles
 
--- The accesses of a history are in turns, each in the cycle in which its core received it.
-abbrev pub AreReceived : ℕ → ℕ → List Item → (ℕ → ServiceHistory) → Type 0
-AreReceived rounds turn items histories =
-    (stamps : List Stamp) × (AreInTurns rounds turn items stamps
-    × ((core : ℕ) → (histories core).service.accesses ≡ own_stamps stamps core))
+-- The accesses of a history, each in the cycle in which its core received it, are in an order.
+pub record AreReceived (in_order : List Stamp → Type 0) (items : List Item) (histories : ℕ → ServiceHistory) : Type 0 where
+  pub stamps : List Stamp
+  pub are : map (λ (stamp : Stamp). stamp.entry) stamps ≡ entries items
+  pub ordered : in_order stamps
+  pub received : (core : ℕ) → (histories core).service.accesses ≡ own_stamps stamps core
 
--- How the engines of slots were served, behind so many rounds and so many turns of the next.
-pub record AreServed {E : Type 0} (view : E → EngineView) (times : ServiceHistory → E → Type 0) (rounds turn : ℕ) (m : MemoryView)
-    (slots : List (CoreSlot E)) (histories : ℕ → ServiceHistory) : Type 0 where
+-- How the engines of slots were served, and in which order, where each answer came as its request was served.
+pub record AreServed {E : Type 0} (view : E → EngineView) (times : ServiceHistory → E → Type 0) (in_order : List Stamp → Type 0)
+    (m : MemoryView) (slots : List (CoreSlot E)) (histories : ℕ → ServiceHistory) : Type 0 where
   pub each : (core : ℕ) (s : CoreSlot E) → slice_get slots core ≡ Some s
       → IsServedAt view times (side_of m s.lane.core) s.engine s.lane s.end s.cycles (histories core)
-  pub at_once : IsAtOnce m → AreReceived rounds turn m.history histories
+  pub at_once : IsAtOnce m → AreReceived in_order m.history histories
 
 -- Where each answer came as its request was served, no core's budget ended while it waited, and the accesses of the history are
--- in turns, each in the cycle in which its core received it.
-pub record IsAtOnceRun (cores budget : ℕ) (outcome : OutcomeValue) (histories : ℕ → ServiceHistory) : Type 0 where
-  pub stamps : List Stamp
-  pub turns : AreInTurns budget 0 outcome.items stamps
-  pub received : (core : ℕ) → core < cores → (histories core).service.accesses ≡ own_stamps stamps core
-  pub waited : NoneWaited cores histories
+-- in an order, each in the cycle in which its core received it.
+pub record IsAtOnceRun (cores : ℕ) (in_order : List Stamp → Type 0) (outcome : OutcomeValue) (histories : ℕ → ServiceHistory) : Type 0
+  where
+    pub received : AreReceived in_order outcome.items histories
+    pub waited : NoneWaited cores histories
 
 -- How the cores of a run on a memory were served.
 pub record IsServedRun {E : Type 0} (view : E → EngineView) (rows : E → List TimeRow) (times : ServiceHistory → E → Type 0) (m : MemoryView)
-    (budget : ℕ) (outcome : OutcomeValue) (histories : ℕ → ServiceHistory) : Type 0 where
+    (in_order : List Stamp → Type 0) (outcome : OutcomeValue) (histories : ℕ → ServiceHistory) : Type 0 where
   pub ends : EndsServed view rows times m outcome histories
-  pub at_once : IsAtOnce m → IsAtOnceRun m.cores budget outcome histories
+  pub at_once : IsAtOnce m → IsAtOnceRun m.cores in_order outcome histories

@@ -17,6 +17,7 @@
 mod lane;
 mod plain;
 mod run;
+mod seeded;
 mod serial;
 mod side;
 mod timed;
@@ -24,6 +25,7 @@ mod timed;
 pub use lane::{Lane, cycle, finish, run_cycle};
 pub use plain::Plain;
 pub use run::{plain_slots, run_serial};
+pub use seeded::run_seeded;
 pub use serial::{CoreSlot, end_of, run_slots};
 pub use side::CoreSide;
 pub use std::alloc::AllocError as NoMemory;

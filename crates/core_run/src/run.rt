@@ -3,18 +3,18 @@ ghost use Rattle.std.specs.Prelude.{◌≡◌, ℕ, ◌*◌, ◌<◌, ◌≤◌,
 ghost use Rattle.std.specs.List.{AllByRecursion};
 ghost use Rattle.kmp_base.specs.Limits.{IsWithinLimits};
 ghost use Rattle.kmp_base.specs.declared.setup.MachineKind.TheVariants as machines;
-ghost use Rattle.kmp_base.specs.declared.setup.Turns.TheVariants as turns;
 ghost use Rattle.access_log.specs.Items.{entries};
 ghost use Rattle.right_run.specs.Right.{IsRight};
-ghost use Rattle.right_run.specs.Turns.{IsInTurns};
+ghost use Rattle.right_run.specs.Turns.{IsInTurns, cycles_of};
 ghost use Rattle.mem_port.specs.ServiceHistory.{ServiceHistory, IsFirstHistory};
 ghost use Rattle.core_run.specs.Outcomes.{AreFirst};
+ghost use Rattle.core_run.specs.Serial.{IsSerial};
 ghost use Rattle.core_run.specs.declared.plain.Plain.{Plain};
 ghost use Rattle.core_run.specs.declared.serial.CoreSlot.{CoreSlot};
 
-use crate::{CoreSlot, NoMemory, Plain, run_slots};
+use crate::{CoreSlot, NoMemory, Plain, run_seeded, run_slots};
 use image_file::Image;
-use kmp_base::Setup;
+use kmp_base::{Setup, Turns};
 use mem_port::{CoreEngine, FlatMemory};
 use std::alloc::Global;
 use timetable::Outcome;
@@ -42,9 +42,9 @@ pub fn plain_slots<'a>(
 pub fn run_serial(alloc: Global, image: &Image, setup: &Setup) -> Result<Outcome, NoMemory>
     requires limits { IsWithinLimits setup.now }
     requires plain { setup.now.machine ≡ machines.Plain }
-    requires round { setup.now.turns ≡ turns.Round }
+    requires serial { IsSerial setup.now.turns }
     ensures right { IfOk result (IsRight setup.now image.now) }
-    ensures turns { IfOk result (λ outcome. IsInTurns setup.now (entries outcome.items)) }
+    ensures turns { IfOk result (λ outcome. IsInTurns setup.now (cycles_of outcome.cores) (entries outcome.items)) }
     ensures cores { IfOk result (λ outcome. length outcome.cores ≡ setup.now.cores) }
     ensures words { IfOk result (λ outcome. length outcome.words ≡ 2 * image.now.memory_lines) }
     ensures within { IfOk result (λ outcome. AllByRecursion (λ entry. entry.core < setup.now.cores) (entries outcome.items)) }
@@ -52,5 +52,9 @@ pub fn run_serial(alloc: Global, image: &Image, setup: &Setup) -> Result<Outcome
     let memory = FlatMemory::new(alloc, image, setup.cores, setup.budget)?;
     let ends = Vec::with_capacity(alloc, setup.cores as usize)?;
     let slots = plain_slots(alloc, image, setup.cores)?;
-    Ok(run_slots(alloc, memory, slots, ends, setup.budget))
+    match setup.turns {
+        Turns::Round => Ok(run_slots(alloc, memory, slots, ends, setup.budget)),
+        Turns::Seeded => Ok(run_seeded(alloc, memory, slots, ends, setup.seed, setup.budget)),
+        Turns::Threads => unreachable!(),
+    }
 }

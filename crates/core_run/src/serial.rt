@@ -1,16 +1,17 @@
 //! Cores that take turns on one memory: in each round every core has one cycle, by rising number.
-ghost use Rattle.std.specs.Prelude.{◌≡◌, ◌<◌, ◌≤◌, ◌+◌, ◌^◌, ℕ, [], List, Some, None, vec_len, vec_capacity, slice_get, length};
+ghost use Rattle.std.specs.Prelude.{◌≡◌, ◌<◌, ◌≤◌, ◌+◌, ◌^◌, ℕ, [], List, Some, None, is_some, vec_len, vec_capacity, slice_get, length};
 ghost use Rattle.std.specs.List.{All};
 ghost use Rattle.timetable.specs.declared.CoreEnd.{CoreEnd};
 ghost use Rattle.timetable.specs.declared.End.{End};
 ghost use Rattle.timetable.specs.Outcome.{IsState};
+ghost use Rattle.mem_port.specs.Calls.{Call, Lead};
 ghost use Rattle.mem_port.specs.Memory.{IsLawful, IsFresh, IsAtOnce, Keeps, Settles};
 ghost use Rattle.mem_port.specs.ServiceHistory.{ServiceHistory, IsFirstHistory};
 ghost use Rattle.mem_port.specs.Side.{LeavesOthers, ServesCore, side_of};
 ghost use Rattle.core_run.specs.Lanes.{IsClosed};
-ghost use Rattle.core_run.specs.Running.{IsServedAt};
+ghost use Rattle.core_run.specs.Running.{AreOfCycle, IsServedAt};
 ghost use Rattle.core_run.specs.Outcomes.{AreFirst, IsRun, IsEndOf};
-ghost use Rattle.core_run.specs.Serial.{SlotAt, AreAt, Leads, Receives, AreServed, IsServedRun};
+ghost use Rattle.core_run.specs.Serial.{IsSlotOf, SlotAt, AreAt, Leads, Receives, AreInRounds, AreServed, IsServedRun};
 ghost use Rattle.core_run.specs.declared.serial.CoreSlot.{CoreSlot};
 
 use crate::lane::run_cycle;
@@ -48,8 +49,41 @@ impl<E> CoreSlot<E> {
     }
 }
 
-/// The turn of a core: one cycle, if it runs on, and its end, if that was the last one.
-fn play<E: TimedEngine, M: MemoryCore>(memory: &mut M, slot: &mut CoreSlot<E>, budget: u32)
+/// The turn of a core that runs on: its next cycle, with this choice, and its end, if that was the last
+/// one.
+pub fn play<E: TimedEngine, M: MemoryCore>(
+    memory: &mut M,
+    slot: &mut CoreSlot<E>,
+    choice: u32,
+    budget: u32,
+)
+    requires serves { ServesCore (M.view memory.old) slot.old.lane.core }
+    requires slot { IsSlotOf slot.old.lane.core budget (M.view memory.old) (E.view slot.old.engine) slot.old.lane slot.old.end slot.old.cycles }
+    requires no_end { slot.old.end ≡ None }
+    ensures serves { ServesCore (M.view memory.new) slot.old.lane.core }
+    ensures slot { IsSlotOf slot.old.lane.core budget (M.view memory.new) (E.view slot.new.engine) slot.new.lane slot.new.end slot.new.cycles }
+    ensures cycles { slot.new.cycles ≡ slot.old.cycles + 1 }
+    ensures others { LeavesOthers slot.old.lane.core (M.view memory.old) (M.view memory.new) }
+    ensures made { (calls : List Call) × (AreOfCycle slot.old.lane.core choice (is_some slot.new.end) calls × Lead M.makes calls memory.old memory.new) }
+    ensures served { (history : ServiceHistory)
+        → IsServedAt E.view E.timed (side_of (M.view memory.old) slot.old.lane.core) slot.old.engine slot.old.lane slot.old.end slot.old.cycles history
+        → (after : ServiceHistory) × (IsServedAt E.view E.timed (side_of (M.view memory.new) slot.new.lane.core) slot.new.engine slot.new.lane slot.new.end slot.new.cycles after
+        × (IsAtOnce (M.view memory.old) → Receives slot.old.lane.core slot.new.cycles (M.view memory.old).history (M.view memory.new).history history after)) }
+{
+    let mut side = memory;
+    slot.end = run_cycle(
+        &mut slot.engine,
+        &mut side,
+        &mut slot.lane,
+        choice,
+        slot.cycles,
+        budget,
+    );
+    slot.cycles += 1;
+}
+
+/// The turn of a core in a round, if it runs on.
+fn play_if_on<E: TimedEngine, M: MemoryCore>(memory: &mut M, slot: &mut CoreSlot<E>, budget: u32)
     requires serves { ServesCore (M.view memory.old) slot.old.lane.core }
     requires at { (rounds : ℕ) × SlotAt slot.old.lane.core rounds budget (M.view memory.old) (E.view slot.old.engine) slot.old.lane slot.old.end slot.old.cycles }
     ensures serves { ServesCore (M.view memory.new) slot.old.lane.core }
@@ -67,16 +101,7 @@ fn play<E: TimedEngine, M: MemoryCore>(memory: &mut M, slot: &mut CoreSlot<E>, b
     if slot.end.is_some() {
         return;
     }
-    let mut side = memory;
-    slot.end = run_cycle(
-        &mut slot.engine,
-        &mut side,
-        &mut slot.lane,
-        0,
-        slot.cycles,
-        budget,
-    );
-    slot.cycles += 1;
+    play(memory, slot, 0, budget);
 }
 
 /// One round: the turn of each core, by rising number.
@@ -97,12 +122,12 @@ fn play_round<E: TimedEngine, M: MemoryCore>(
     ensures made { Leads M.makes memory.old memory.new }
     ensures served { (rounds : ℕ) (histories : ℕ → ServiceHistory)
         → AreAt E.view rounds budget (M.view memory.old) slots.old.items
-        → AreServed E.view E.timed rounds 0 (M.view memory.old) slots.old.items histories
-        → (after : ℕ → ServiceHistory) × AreServed E.view E.timed (rounds + 1) 0 (M.view memory.new) slots.new.items after }
+        → AreServed E.view E.timed (AreInRounds rounds 0) (M.view memory.old) slots.old.items histories
+        → (after : ℕ → ServiceHistory) × AreServed E.view E.timed (AreInRounds (rounds + 1) 0) (M.view memory.new) slots.new.items after }
 {
     for index in 0..slots.len() {
         let slot = &mut slots[index];
-        play(memory, slot, budget);
+        play_if_on(memory, slot, budget);
     }
 }
 
@@ -121,8 +146,8 @@ fn play_all<E: TimedEngine, M: MemoryCore>(
     ensures kept { Keeps (M.view memory.old) (M.view memory.new) }
     ensures made { Leads M.makes memory.old memory.new }
     ensures served { (histories : ℕ → ServiceHistory)
-        → AreServed E.view E.timed 0 0 (M.view memory.old) slots.old.items histories
-        → (after : ℕ → ServiceHistory) × AreServed E.view E.timed budget 0 (M.view memory.new) slots.new.items after }
+        → AreServed E.view E.timed (AreInRounds 0 0) (M.view memory.old) slots.old.items histories
+        → (after : ℕ → ServiceHistory) × AreServed E.view E.timed (AreInRounds budget 0) (M.view memory.new) slots.new.items after }
 {
     for _ in 0..budget {
         play_round(memory, slots, budget);
@@ -153,7 +178,7 @@ pub fn end_of<E: TimedEngine>(alloc: Global, slot: CoreSlot<E>) -> CoreEnd
 }
 
 /// The ends of cores that have ended, in order.
-fn gather<E: TimedEngine>(alloc: Global, slots: Vec<CoreSlot<E>>, ends: &mut Vec<CoreEnd>)
+pub fn gather<E: TimedEngine>(alloc: Global, slots: Vec<CoreSlot<E>>, ends: &mut Vec<CoreEnd>)
     requires over { (core : ℕ) (s : CoreSlot E) → slice_get slots.items core ≡ Some s → (end : End) × (s.end ≡ Some end) }
     requires room { vec_len slots ≤ vec_capacity ends.old }
     requires empty { ends.old.items ≡ [] }
@@ -167,7 +192,8 @@ fn gather<E: TimedEngine>(alloc: Global, slots: Vec<CoreSlot<E>>, ends: &mut Vec
     }
 }
 
-/// Runs all cores to their ends. It takes no memory: the list of ends comes with room for them.
+/// Runs all cores to their ends, in rounds. It takes no memory: the list of ends comes with room for
+/// them.
 pub fn run_slots<E: TimedEngine, M: MemoryCore>(
     alloc: Global,
     mut memory: M,
@@ -184,7 +210,7 @@ pub fn run_slots<E: TimedEngine, M: MemoryCore>(
     ensures run { IsRun (M.view memory).image (M.view memory).cores budget (M.view memory).caches result }
     ensures made { (last : M) × (Leads M.makes memory last × Settles (M.view last) result.words result.items) }
     ensures served { ((core : ℕ) (s : CoreSlot E) → slice_get slots.items core ≡ Some s → (history : ServiceHistory) → IsFirstHistory history → E.timed history s.engine)
-        → (histories : ℕ → ServiceHistory) × IsServedRun E.view E.rows E.timed (M.view memory) budget result histories }
+        → (histories : ℕ → ServiceHistory) × IsServedRun E.view E.rows E.timed (M.view memory) (AreInRounds budget 0) result histories }
 {
     play_all(&mut memory, &mut slots, budget);
     gather(alloc, slots, &mut ends);

@@ -6,7 +6,7 @@ ghost use Rattle.kmp_base.specs.declared.setup.MachineKind.TheVariants as machin
 ghost use Rattle.kmp_base.specs.declared.setup.Turns.TheVariants as turns;
 ghost use Rattle.access_log.specs.Items.{entries};
 ghost use Rattle.right_run.specs.Right.{IsRight};
-ghost use Rattle.right_run.specs.Turns.{IsInTurns};
+ghost use Rattle.right_run.specs.Turns.{IsInTurns, cycles_of};
 ghost use Rattle.mem_port.specs.Memory.{IsFresh, IsAtOnce};
 ghost use Rattle.mem_port.specs.ServiceHistory.{ServiceHistory, IsFirstHistory};
 ghost use Rattle.core_run.specs.Outcomes.{AreFirst, IsRun, EndsServed, NoneWaited};
@@ -119,7 +119,7 @@ pub fn run_threads<R: Threads + Wait + Sync, G: Gate + Sync>(
     requires plain { setup.now.machine ≡ machines.Plain }
     requires threads { setup.now.turns ≡ turns.Threads }
     ensures right { IfOk result (IsRight setup.now image.now) }
-    ensures turns { IfOk result (λ outcome. IsInTurns setup.now (entries outcome.items)) }
+    ensures turns { IfOk result (λ outcome. IsInTurns setup.now (cycles_of outcome.cores) (entries outcome.items)) }
     ensures cores { IfOk result (λ outcome. length outcome.cores ≡ setup.now.cores) }
     ensures words { IfOk result (λ outcome. length outcome.words ≡ 2 * image.now.memory_lines) }
     ensures within { IfOk result (λ outcome. AllByRecursion (λ entry. entry.core < setup.now.cores) (entries outcome.items)) }

@@ -7,6 +7,9 @@ use Rattle.report_text.specs.Right.{IsRightReport}
 use Rattle.report_text.specs.Text.{report_text}
 use Rattle.report_text.specs.Form.{IsReport}
 use Rattle.report_read.specs.BadRow.{IsBadRow}
+use Rattle.workload_gen.specs.Source.{source_text}
+use Rattle.report_summary.specs.Summary.{summary_text}
+use Rattle.kmp_base.specs.declared.setup.Setup.{Setup}
 use Rattle.replayer.specs.declared.Difference.{Difference}
 use Rattle.replayer.specs.Difference.{IsDifference}
 use Rattle.kmp_words.specs.Input.{meaning_of}
@@ -17,6 +20,8 @@ use Rattle.kmp_words.specs.declared.input.Refusal.TheVariants.{TooLong}
 use Rattle.kmp_words.specs.declared.order.Order.{Order}
 use Rattle.kmp_words.specs.declared.order.Order.TheVariants as orders
 use Rattle.kmp_call.specs.Outcome.{IsRefusalDue, IsRunDue, report_limit}
+use Rattle.kmp_call.specs.Right.{IsReportOf}
+use Rattle.kmp_call.specs.Status.{status_of}
 use Rattle.kmp_call.specs.Refused.{too_long_row, bad_row}
 use Rattle.kmp_call.specs.declared.status.Status.{Status}
 use Rattle.kmp_call.specs.declared.status.Status.TheVariants as statuses
@@ -43,8 +48,19 @@ IsCheckDue bytes text due =
     × (due ≡ statuses.ReportRefused line))
     ⊎ ((report_limit < length bytes) × (text ≡ too_long_row report_limit) × (due ≡ statuses.InputRefused (TooLong report_limit))))
 
+-- The image of the source that a seed draws, of so many blocks, in 65,536 bytes of memory.
+abbrev pub trial_image : Setup → ℕ → Result ImageValue Refusal
+trial_image setup size = image_in (meaning_of (inputs.Source 8192) (source_text setup.seed size))
+
+-- What is due for a trial with an image: the summary of a right report and the status of its ends.
+abbrev pub IsTrialDue : Setup → ℕ → Result ImageValue Refusal → List ℕ → Status → Type 0
+IsTrialDue setup size (Ok image) text due =
+    (report : ReportValue) × IsReportOf setup image report × (text ≡ summary_text size report) × (due ≡ status_of report)
+IsTrialDue setup size (Err refusal) text due = IsRefusalDue refusal text due
+
 -- What is due for an order and the bytes of its input.
 abbrev pub IsDue : Order → List ℕ → List ℕ → Status → Type 0
 IsDue (orders.Run setup input) bytes = IsRunDue setup (image_in (meaning_of input bytes))
 IsDue (orders.Asm memory_lines) bytes = IsImageDue (image_in (meaning_of (inputs.Source memory_lines) bytes))
 IsDue orders.Replay bytes = IsCheckDue bytes
+IsDue (orders.Trial setup size) bytes = IsTrialDue setup size (trial_image setup size)

@@ -4,6 +4,7 @@
 
 mod obey;
 mod tool;
+mod trial;
 mod usage;
 mod verdict;
 

@@ -1,4 +1,4 @@
-//! The orders of kmp: a run in turns, the image of a source, and the check of a report.
+//! The orders of kmp: a run in turns, the image of a source, the check of a report, and a trial.
 ghost use Rattle.std.specs.Prelude.{◌≡◌, ◌⊎◌, ◌≤◌, length, Ok};
 ghost use Rattle.report_text.specs.Form.{IsReport};
 ghost use Rattle.report_text.specs.Text.{report_text};
@@ -7,11 +7,12 @@ ghost use Rattle.kmp_words.specs.Input.{limit_of, meaning_of};
 ghost use Rattle.kmp_words.specs.Loaded.{image_in};
 ghost use Rattle.kmp_words.specs.Words.{IsProperInput, IsRunnable, IsRunnableSetup};
 ghost use Rattle.kmp_words.specs.declared.program.Program.TheVariants as programs;
-ghost use Rattle.kmp_call.specs.Outcome.{input_limit, report_limit, Answers, Finishes, RunsOut, Ends, IsRunDue};
+ghost use Rattle.kmp_call.specs.Outcome.{report_limit, Answers, Finishes, RunsOut, Ends, EndsOrder, IsRunDue};
 ghost use Rattle.kmp_call.specs.Told.{Tells, TellsInput};
 ghost use Rattle.kmp_call.specs.declared.status.Status.TheVariants.{Done};
 ghost use Rattle.kmp.specs.Outcome.{IsImageDue, IsVerdictDue, IsCheckDue, IsDue};
 
+use crate::trial::obey_trial;
 use crate::verdict;
 use core_run::run_serial;
 use image_file::{Image, write_image};
@@ -32,14 +33,14 @@ pub fn obey<S: Source, K: Sink>(
     sink: &mut K,
 ) -> Ending
     requires runnable { IsRunnable programs.Kmp order.now }
-    ensures ends { Ends S.left S.faults K.held K.faults (input_limit order.now) (IsDue order.now)
-        source.old source.new sink.old sink.new result.status }
+    ensures ends { EndsOrder S.left S.faults K.held K.faults IsDue order.now source.old source.new sink.old sink.new result.status }
     ensures tells { Tells S.left S.faults (Ok order.now) source.old source.new sink.old sink.new result.status result.split.items }
 {
     match order {
         Order::Run { setup, input } => obey_run(alloc, setup, *input, source, sink),
         Order::Asm { memory_lines } => obey_asm(alloc, *memory_lines, source, sink),
         Order::Replay => Ending::of(alloc, obey_replay(alloc, source, sink)),
+        Order::Trial { setup, size } => { Ending::of(alloc, obey_trial(alloc, setup, *size, sink)) }
     }
 }
 

@@ -12,7 +12,7 @@ use Rattle.kmp_words.specs.declared.input.Input.TheVariants as inputs
 use Rattle.kmp_words.specs.declared.order.Order.{Order}
 use Rattle.kmp_words.specs.declared.order.Order.TheVariants as orders
 use Rattle.kmp_call.specs.Call.{IsPut}
-use Rattle.kmp_call.specs.Outcome.{Answers, Finishes, RunsOut, IsUnfulfilled, Ends}
+use Rattle.kmp_call.specs.Outcome.{Answers, Finishes, RunsOut, IsUnfulfilled, Ends, EndsOrder}
 use Rattle.kmp_call.specs.Status.{after_write}
 use Rattle.kmp_call.specs.Told.{TellsInput, Tells}
 use Rattle.kmp_call.specs.declared.status.Status.{Status}
@@ -71,7 +71,7 @@ module _ {S K : Type 0} (left : S → Option (List ℕ)) (read_faults : S → �
     | inr lack ↦ inr (record { no_fault = lack.no_fault; out = out_beneath lack.out })
   ]
 
-  pub ends_beneath : (limit : ℕ) (IsDue : List ℕ → List ℕ → Status → Type 0)
+  ends_beneath : (limit : ℕ) (IsDue : List ℕ → List ℕ → Status → Type 0)
       → Ends left read_faults (with_waiting held) (faults_beneath faults) limit IsDue source source' old new status
       → Ends left read_faults held faults limit IsDue source source' first sink status'
   ends_beneath limit IsDue ends = elim ends [
@@ -83,6 +83,16 @@ module _ {S K : Type 0} (left : S → Option (List ℕ)) (read_faults : S → �
     })
     | inr failed ↦ inr (unfulfilled_beneath failed)
   ]
+
+  pub order_beneath : (IsDue : Order → List ℕ → List ℕ → Status → Type 0) (order : Order)
+      → EndsOrder left read_faults (with_waiting held) (faults_beneath faults) IsDue order source source' old new status
+      → EndsOrder left read_faults held faults IsDue order source source' first sink status'
+  order_beneath IsDue (orders.Run setup input) ends = ends_beneath _ (IsDue (orders.Run setup input)) ends
+  order_beneath IsDue (orders.Asm memory_lines) ends = ends_beneath _ (IsDue (orders.Asm memory_lines)) ends
+  order_beneath IsDue orders.Replay ends = ends_beneath _ (IsDue orders.Replay) ends
+  order_beneath IsDue (orders.Trial setup size) (kept, inl finishes) =
+      (kept, inl (finishes_beneath (IsDue (orders.Trial setup size) []) finishes))
+  order_beneath IsDue (orders.Trial setup size) (kept, inr out) = (kept, inr (out_beneath out))
 
   input_beneath : (input : Input) (lines : List ℕ) → TellsInput left read_faults input source source' old new status lines
       → TellsInput left read_faults input source source' first sink status' lines
@@ -96,3 +106,4 @@ module _ {S K : Type 0} (left : S → Option (List ℕ)) (read_faults : S → �
   tells_beneath (orders.Run setup input) lines tells = input_beneath input lines tells
   tells_beneath (orders.Asm memory_lines) lines tells = input_beneath (inputs.Source memory_lines) lines tells
   tells_beneath orders.Replay lines none = none
+  tells_beneath (orders.Trial setup size) lines none = none

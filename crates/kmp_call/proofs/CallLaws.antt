@@ -1,5 +1,5 @@
 -- What follows for a call from how its order ended, or from the refusal of its words.
-use Rattle.std.proofs.Common.{◌≡◌, ◌≢◌, ◌<◌, ◌⊎◌, ℕ, Bool, true, false, List, refl, ap, inl, inr, arith}
+use Rattle.std.proofs.Common.{◌≡◌, ◌≢◌, ◌<◌, ◌⊎◌, ℕ, Bool, true, false, List, [], refl, ap, inl, inr, arith}
 use Rattle.std.specs.Prelude.{Option, Result, Ok, Err, OnOk, OnErr, if◌then◌else◌}
 use Rattle.kmp_base.specs.Streams.{Rose}
 use Rattle.kmp_base.specs.declared.setup.Setup.{Setup}
@@ -8,8 +8,9 @@ use Rattle.image_file.specs.Value.{ImageValue}
 use Rattle.kmp_words.specs.declared.fault.WordFault.{WordFault}
 use Rattle.kmp_words.specs.declared.input.Refusal.{Refusal}
 use Rattle.kmp_words.specs.declared.order.Order.{Order}
+use Rattle.kmp_words.specs.declared.order.Order.TheVariants as orders
 use Rattle.kmp_call.specs.Call.{IsCall}
-use Rattle.kmp_call.specs.Outcome.{input_limit, Answers, Fulfils, LacksMemory, IsUnfulfilled, Ends, IsRunDue}
+use Rattle.kmp_call.specs.Outcome.{input_limit, Answers, Finishes, RunsOut, Fulfils, FulfilsOrder, Ends, EndsOrder, IsRunDue}
 use Rattle.kmp_call.specs.Refused.{word_row}
 use Rattle.kmp_call.specs.Status.{code_of, after_write, IsOfInput}
 use Rattle.kmp_call.specs.declared.status.Status.{Status}
@@ -101,66 +102,83 @@ module _ {S K : Type 0} (left : S → Option (List ℕ)) (read_faults : S → �
         handed_over = told.handed_over;
       }
 
-  fulfilled_call : (order : Order)
-      → Fulfils left read_faults held write_faults (input_limit order) (IsDue order) source source' sink sink' status
+  module _ (order : Order) (ends : EndsOrder left read_faults held write_faults IsDue order source source' sink sink' status) where
+    finished_call : (bytes : List ℕ) → Finishes held write_faults sink sink' (IsDue order bytes) status
+        → FulfilsOrder left read_faults held write_faults IsDue order source source' sink sink' status
+        → read_faults source' ≡ read_faults source
+        → ((bytes text : List ℕ) (due : Status) → IsDue order bytes text due → IsOfInput due)
+        → IsCall left read_faults held write_faults IsDue (Ok order) source source' sink sink' status
+    finished_call bytes finishes done no_fault of_input =
+        let is_of : IsOfInput finishes.due = of_input bytes finishes.text finishes.due finishes.is_due in
+        let behind = answered held write_faults sink sink' status finishes.text finishes.due finishes.answers in
+        let told = told_behind finishes.due (λ is. grind (arith, is_of, is)) (λ is. grind (arith, is_of, is))
+        (λ is. grind (arith, is_of, is)) no_fault behind in
+        record {
+          refused = tt;
+          obeyed = ends;
+          words_refused = λ is. absurd (grind (arith, is_of, behind, is));
+          refused_words = λ is. absurd cc;
+          unfulfilled = λ none. absurd (none done);
+          read_fault = told.read_fault;
+          read_failed = told.read_failed;
+          write_fault = told.write_fault;
+          write_failed = told.write_failed;
+          unwritten = λ is. absurd (grind (arith, is_of, behind, is));
+          handed_over = told.handed_over;
+        }
+
+    unfulfilled_call : (code_of status ≡ 4) ⊎ (code_of status ≡ 6) → sink' ≡ sink → IsTold
+        → IsCall left read_faults held write_faults IsDue (Ok order) source source' sink sink' status
+    unfulfilled_call code kept told = record {
+      refused = tt;
+      obeyed = ends;
+      words_refused = λ is. absurd (grind (arith, code, is));
+      refused_words = λ is. absurd cc;
+      unfulfilled = λ none. code;
+      read_fault = told.read_fault;
+      read_failed = told.read_failed;
+      write_fault = told.write_fault;
+      write_failed = told.write_failed;
+      unwritten = λ is. kept;
+      handed_over = told.handed_over;
+    }
+
+    lacking_call : read_faults source' ≡ read_faults source → RunsOut sink sink' status
+        → IsCall left read_faults held write_faults IsDue (Ok order) source source' sink sink' status
+    lacking_call no_fault out =
+        let code = ap code_of out.status_is in
+        unfulfilled_call (inr code) out.sink_kept
+        (unfailed _ _ _ _ _ (λ is. omega (arith, code, is)) (λ is. omega (arith, code, is)) (λ is. omega (arith, code, is)) no_fault
+        (ap write_faults out.sink_kept))
+
+  -- an order that reads its input
+  reading_call : (order : Order)
+      → (Ends left read_faults held write_faults (input_limit order) (IsDue order) source source' sink sink' status
+      → EndsOrder left read_faults held write_faults IsDue order source source' sink sink' status)
+      → (Fulfils left read_faults held write_faults (input_limit order) (IsDue order) source source' sink sink' status
+      → FulfilsOrder left read_faults held write_faults IsDue order source source' sink sink' status)
       → ((bytes text : List ℕ) (due : Status) → IsDue order bytes text due → IsOfInput due)
-      → IsCall left read_faults held write_faults IsDue (Ok order) source source' sink sink' status
-  fulfilled_call order done of_input =
-      let finishes = done.finishes in
-      let is_of : IsOfInput finishes.due = of_input done.bytes finishes.text finishes.due finishes.is_due in
-      let behind = answered held write_faults sink sink' status finishes.text finishes.due finishes.answers in
-      let told = told_behind finishes.due (λ is. grind (arith, is_of, is)) (λ is. grind (arith, is_of, is))
-      (λ is. grind (arith, is_of, is)) done.no_fault behind in
-      record {
-        refused = tt;
-        obeyed = inl done;
-        words_refused = λ is. absurd (grind (arith, is_of, behind, is));
-        refused_words = λ is. absurd cc;
-        unfulfilled = λ none. absurd (none done);
-        read_fault = told.read_fault;
-        read_failed = told.read_failed;
-        write_fault = told.write_fault;
-        write_failed = told.write_failed;
-        unwritten = λ is. absurd (grind (arith, is_of, behind, is));
-        handed_over = told.handed_over;
-      }
-
-  unfulfilled_call : (order : Order) → IsUnfulfilled read_faults source source' sink sink' status
-      → (code_of status ≡ 4) ⊎ (code_of status ≡ 6) → sink' ≡ sink → IsTold
-      → IsCall left read_faults held write_faults IsDue (Ok order) source source' sink sink' status
-  unfulfilled_call order failed code kept told = record {
-    refused = tt;
-    obeyed = inr failed;
-    words_refused = λ is. absurd (grind (arith, code, is));
-    refused_words = λ is. absurd cc;
-    unfulfilled = λ none. code;
-    read_fault = told.read_fault;
-    read_failed = told.read_failed;
-    write_fault = told.write_fault;
-    write_failed = told.write_failed;
-    unwritten = λ is. kept;
-    handed_over = told.handed_over;
-  }
-
-  lacking_call : (order : Order) → LacksMemory read_faults source source' sink sink' status
-      → IsCall left read_faults held write_faults IsDue (Ok order) source source' sink sink' status
-  lacking_call order lack =
-      let code = ap code_of lack.out.status_is in
-      unfulfilled_call order (inr lack) (inr code) lack.out.sink_kept
-      (unfailed _ _ _ _ _ (λ is. omega (arith, code, is)) (λ is. omega (arith, code, is)) (λ is. omega (arith, code, is)) lack.no_fault
-      (ap write_faults lack.out.sink_kept))
-
-  pub obeyed_call : (order : Order) → ((bytes text : List ℕ) (due : Status) → IsDue order bytes text due → IsOfInput due)
       → Ends left read_faults held write_faults (input_limit order) (IsDue order) source source' sink sink' status
       → IsCall left read_faults held write_faults IsDue (Ok order) source source' sink sink' status
-  obeyed_call order of_input ends = elim ends [
-    | inl done ↦ fulfilled_call order done of_input
-    | inr failed ↦ elim failed [
-      | inl read ↦ let code = ap code_of read.status_is in unfulfilled_call order (inl read) (inl code) read.sink_kept
-          (failed_to_read _ _ _ _ _ code read.cause (ap write_faults read.sink_kept))
-      | inr lack ↦ lacking_call order lack
-    ]
-  ]
+  reading_call order to_ends to_fulfils of_input (inl done) =
+      finished_call order (to_ends (inl done)) done.bytes done.finishes (to_fulfils done) done.no_fault of_input
+  reading_call order to_ends to_fulfils of_input (inr (inl read)) =
+      let code = ap code_of read.status_is in
+      unfulfilled_call order (to_ends (inr (inl read))) (inl code) read.sink_kept
+      (failed_to_read _ _ _ _ _ code read.cause (ap write_faults read.sink_kept))
+  reading_call order to_ends to_fulfils of_input (inr (inr lack)) =
+      lacking_call order (to_ends (inr (inr lack))) lack.no_fault lack.out
+
+  pub obeyed_call : (order : Order) → ((bytes text : List ℕ) (due : Status) → IsDue order bytes text due → IsOfInput due)
+      → EndsOrder left read_faults held write_faults IsDue order source source' sink sink' status
+      → IsCall left read_faults held write_faults IsDue (Ok order) source source' sink sink' status
+  obeyed_call (orders.Run setup input) of_input ends = reading_call (orders.Run setup input) (λ e. e) (λ f. f) of_input ends
+  obeyed_call (orders.Asm memory_lines) of_input ends = reading_call (orders.Asm memory_lines) (λ e. e) (λ f. f) of_input ends
+  obeyed_call orders.Replay of_input ends = reading_call orders.Replay (λ e. e) (λ f. f) of_input ends
+  obeyed_call (orders.Trial setup size) of_input (kept, inl finishes) =
+      finished_call (orders.Trial setup size) (kept, inl finishes) [] finishes (kept, finishes) (ap read_faults kept) of_input
+  obeyed_call (orders.Trial setup size) of_input (kept, inr out) =
+      lacking_call (orders.Trial setup size) (kept, inr out) (ap read_faults kept) out
 
 -- What is due for a run has such a status.
 pub run_is_of_input : (setup : Setup) (meaning : Result ImageValue Refusal) (text : List ℕ) (due : Status) → IsRunDue setup meaning text due

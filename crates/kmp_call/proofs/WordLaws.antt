@@ -4,7 +4,7 @@ use Rattle.std.specs.Prelude.{Option, Result, Ok, Err, IfOk, MatchResult}
 use Rattle.kmp_words.specs.declared.fault.WordFault.{WordFault}
 use Rattle.kmp_words.specs.declared.order.Order.{Order}
 use Rattle.kmp_call.specs.Call.{IsCall}
-use Rattle.kmp_call.specs.Outcome.{input_limit, Ends}
+use Rattle.kmp_call.specs.Outcome.{EndsOrder}
 use Rattle.kmp_call.specs.Status.{IsOfInput}
 use Rattle.kmp_call.specs.Told.{Tells}
 use Rattle.kmp_call.specs.declared.status.Status.{Status}
@@ -14,7 +14,7 @@ module _ {S K W : Type 0} (left : S → Option (List ℕ)) (read_faults : S → 
     (sink sink' : K) (status : Status) (order : Order) where
   pub obeyed_words : (held : K → Option (List ℕ)) (write_faults : K → ℕ) (IsDue : Order → List ℕ → List ℕ → Status → Type 0)
       → ((bytes text : List ℕ) (due : Status) → IsDue order bytes text due → IsOfInput due)
-      → Ends left read_faults held write_faults (input_limit order) (IsDue order) source source' sink sink' status
+      → EndsOrder left read_faults held write_faults IsDue order source source' sink sink' status
       → (words : Result W Status) → MatchResult words (λ w. meaning w ≡ Ok order) (λ given. ⊥)
       → IfOk words (λ w. IsCall left read_faults held write_faults IsDue (meaning w) source source' sink sink' status)
   obeyed_words held write_faults IsDue of_input ends (Ok w) means =

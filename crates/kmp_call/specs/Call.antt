@@ -5,7 +5,7 @@ use Rattle.kmp_base.specs.declared.collected.Collected.{Collected}
 use Rattle.kmp_base.specs.declared.transfer.WriteFault.{WriteFault}
 use Rattle.kmp_words.specs.declared.fault.WordFault.{WordFault}
 use Rattle.kmp_words.specs.declared.order.Order.{Order}
-use Rattle.kmp_call.specs.Outcome.{input_limit, Answers, Fulfils, Ends, RunsOut}
+use Rattle.kmp_call.specs.Outcome.{Answers, FulfilsOrder, EndsOrder, RunsOut}
 use Rattle.kmp_call.specs.Refused.{word_row}
 use Rattle.kmp_call.specs.Status.{code_of, after_write}
 use Rattle.kmp_call.specs.declared.status.Status.{Status}
@@ -19,14 +19,13 @@ pub record IsCall {S K : Type 0} (left : S → Option (List ℕ)) (read_faults :
   pub refused : IfErr meaning (λ fault. (source' ≡ source)
       × Answers held write_faults sink sink' (word_row fault) (WordsRefused fault) status)
   -- An order is fulfilled, or a read failed, or memory ran out. There is no other case.
-  pub obeyed : IfOk meaning (λ order.
-      Ends left read_faults held write_faults (input_limit order) (IsDue order) source source' sink sink' status)
+  pub obeyed : IfOk meaning (λ order. EndsOrder left read_faults held write_faults IsDue order source source' sink sink' status)
   -- Words without a meaning have a status of their own, unless the write failed.
   pub words_refused : code_of status ≡ 2 → IsErr meaning
   pub refused_words : IsErr meaning → (code_of status ≡ 2) ⊎ (code_of status ≡ 5)
   -- An order that isn't fulfilled has one of two.
   pub unfulfilled : IfOk meaning (λ order.
-      (Fulfils left read_faults held write_faults (input_limit order) (IsDue order) source source' sink sink' status → ⊥)
+      (FulfilsOrder left read_faults held write_faults IsDue order source source' sink sink' status → ⊥)
       → (code_of status ≡ 4) ⊎ (code_of status ≡ 6))
   -- A fault has its cause, and a cause its fault.
   pub read_fault : code_of status ≡ 4 → Rose (read_faults source) (read_faults source')

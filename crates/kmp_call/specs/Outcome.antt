@@ -1,5 +1,5 @@
 -- What a call of a program answers and leaves.
-use Rattle.std.specs.Prelude.{◌≡◌, ◌⊎◌, ℕ, List, Option, Result, Ok, Err}
+use Rattle.std.specs.Prelude.{◌≡◌, ◌⊎◌, ℕ, List, [], Option, Result, Ok, Err}
 use Rattle.kmp_base.specs.Streams.{Rose, Writes}
 use Rattle.kmp_base.specs.declared.transfer.WriteFault.{WriteFault}
 use Rattle.kmp_base.specs.declared.setup.Setup.{Setup}
@@ -61,11 +61,12 @@ EndsUnloaded held faults loads.Memory old new status = RunsOut old new status
 abbrev pub report_limit : ℕ
 report_limit = 268435456
 
--- the most bytes of an order's input
+-- the most bytes of an order's input; a trial has none
 abbrev pub input_limit : Order → ℕ
 input_limit (orders.Run setup input) = limit_of input
 input_limit (orders.Asm memory_lines) = limit_of (inputs.Source memory_lines)
 input_limit orders.Replay = report_limit
+input_limit (orders.Trial setup size) = 0
 
 -- An input was read without a fault, and what is due for its bytes was written.
 pub record Fulfils {S K : Type 0} (left : S → Option (List ℕ)) (read_faults : S → ℕ) (held : K → Option (List ℕ)) (write_faults : K → ℕ)
@@ -97,3 +98,19 @@ abbrev pub Ends : {S K : Type 0} → (S → Option (List ℕ)) → (S → ℕ) �
 Ends left read_faults held write_faults limit IsDue source source' sink sink' status =
     Fulfils left read_faults held write_faults limit IsDue source source' sink sink' status
     ⊎ IsUnfulfilled read_faults source source' sink sink' status
+
+-- An order is fulfilled: what is due for its input was written. A trial reads nothing.
+abbrev pub FulfilsOrder : {S K : Type 0} → (S → Option (List ℕ)) → (S → ℕ) → (K → Option (List ℕ)) → (K → ℕ)
+    → (Order → List ℕ → List ℕ → Status → Type 0) → Order → S → S → K → K → Status → Type 0
+FulfilsOrder left read_faults held write_faults IsDue (orders.Trial setup size) source source' sink sink' status =
+    (source' ≡ source) × Finishes held write_faults sink sink' (IsDue (orders.Trial setup size) []) status
+FulfilsOrder left read_faults held write_faults IsDue order source source' sink sink' status =
+    Fulfils left read_faults held write_faults (input_limit order) (IsDue order) source source' sink sink' status
+
+-- How an order ends: as one that reads its input, or, as a trial, without reading; then memory may still run out.
+abbrev pub EndsOrder : {S K : Type 0} → (S → Option (List ℕ)) → (S → ℕ) → (K → Option (List ℕ)) → (K → ℕ)
+    → (Order → List ℕ → List ℕ → Status → Type 0) → Order → S → S → K → K → Status → Type 0
+EndsOrder left read_faults held write_faults IsDue (orders.Trial setup size) source source' sink sink' status =
+    (source' ≡ source) × (Finishes held write_faults sink sink' (IsDue (orders.Trial setup size) []) status ⊎ RunsOut sink sink' status)
+EndsOrder left read_faults held write_faults IsDue order source source' sink sink' status =
+    Ends left read_faults held write_faults (input_limit order) (IsDue order) source source' sink sink' status

@@ -4,7 +4,7 @@ ghost use Rattle.kmp_base.specs.Limits.{IsWithinLimits};
 ghost use Rattle.kmp_base.specs.declared.setup.MachineKind.TheVariants as machines;
 ghost use Rattle.access_log.specs.Items.{entries};
 ghost use Rattle.right_run.specs.Right.{IsRight};
-ghost use Rattle.right_run.specs.Turns.{IsInTurns};
+ghost use Rattle.right_run.specs.Turns.{IsInTurns, cycles_of};
 ghost use Rattle.report_text.specs.Text.{report_text};
 ghost use Rattle.kmp_call.specs.Right.{IsReportOf};
 ghost use Rattle.kmp_call.specs.Status.{status_of};
@@ -19,8 +19,8 @@ use report_text::Report;
 use std::alloc::Global;
 use timetable::Outcome;
 
-// The report of an image's run.
-fn report_run(
+/// The report of an image's run. It fails only for want of memory.
+pub fn report_run(
     alloc: Global,
     setup: &Setup,
     image: Image,
@@ -29,7 +29,7 @@ fn report_run(
     requires limits { IsWithinLimits setup.now }
     requires plain { setup.now.machine ≡ machines.Plain }
     requires right { IfOk ran (IsRight setup.now image) }
-    requires turns { IfOk ran (λ outcome. IsInTurns setup.now (entries outcome.items)) }
+    requires turns { IfOk ran (λ outcome. IsInTurns setup.now (cycles_of outcome.cores) (entries outcome.items)) }
     requires cores { IfOk ran (λ outcome. length outcome.cores ≡ setup.now.cores) }
     requires words { IfOk ran (λ outcome. length outcome.words ≡ 2 * image.memory_lines) }
     ensures report { IfOk result (λ report. IsReportOf setup.now image report) }
@@ -56,7 +56,7 @@ pub fn write_run<K: Sink>(
     requires limits { IsWithinLimits setup.now }
     requires plain { setup.now.machine ≡ machines.Plain }
     requires right { IfOk ran (IsRight setup.now image) }
-    requires turns { IfOk ran (λ outcome. IsInTurns setup.now (entries outcome.items)) }
+    requires turns { IfOk ran (λ outcome. IsInTurns setup.now (cycles_of outcome.cores) (entries outcome.items)) }
     requires cores { IfOk ran (λ outcome. length outcome.cores ≡ setup.now.cores) }
     requires words { IfOk ran (λ outcome. length outcome.words ≡ 2 * image.memory_lines) }
     ensures written { Finishes K.held K.faults sink.old sink.new (IsRunDue setup.now (Ok image)) result ⊎ RunsOut sink.old sink.new result }

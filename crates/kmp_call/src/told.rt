@@ -11,15 +11,16 @@ fn ask_for_usage(words: &[&str]) -> bool {
     }
 }
 
-/// What an order reads.
-fn input_of(order: Order) -> &'static str {
+/// What an order reads, if it reads something.
+fn input_of(order: Order) -> Option<&'static str> {
     match order {
         Order::Run {
             setup: _,
             input: Input::Image,
-        } => "an image",
-        Order::Replay => "a report",
-        _ => "a source",
+        } => Some("an image"),
+        Order::Run { .. } | Order::Asm { .. } => Some("a source"),
+        Order::Replay => Some("a report"),
+        Order::Trial { .. } => None,
     }
 }
 
@@ -32,10 +33,10 @@ pub fn tell_reading(
 ) {
     let Ok(words) = words else { return };
     if let Ok(order) = read_words(words, program)
+        && let Some(input) = input_of(order)
         && stdin.is_terminal()
     {
         let name = program.name();
-        let input = input_of(order);
         let _ = eprintln!(rt;
             "{name}: reading {input} from the terminal, to Ctrl-D on a line of its own"
         );

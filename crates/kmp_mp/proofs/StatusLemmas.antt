@@ -13,3 +13,4 @@ pub is_of_input : (order : Order) (bytes text : List ℕ) (due : Status) → IsD
 is_of_input (orders.Run setup input) bytes text due is = run_is_of_input setup (image_in (meaning_of input bytes)) text due is
 is_of_input (orders.Asm memory_lines) bytes text due none = absurd none
 is_of_input orders.Replay bytes text due none = absurd none
+is_of_input (orders.Trial setup size) bytes text due none = absurd none

@@ -4,7 +4,7 @@ ghost use Rattle.kmp_words.specs.Input.{limit_of, meaning_of};
 ghost use Rattle.kmp_words.specs.Loaded.{image_in};
 ghost use Rattle.kmp_words.specs.Words.{IsProperInput, IsRunnable, IsRunnableSetup};
 ghost use Rattle.kmp_words.specs.declared.program.Program.TheVariants as programs;
-ghost use Rattle.kmp_call.specs.Outcome.{input_limit, Ends, IsRunDue};
+ghost use Rattle.kmp_call.specs.Outcome.{Ends, EndsOrder, IsRunDue};
 ghost use Rattle.kmp_call.specs.Told.{Tells, TellsInput};
 ghost use Rattle.kmp_mp.specs.Outcome.{IsDue};
 
@@ -55,12 +55,11 @@ pub fn obey<R: Threads + Wait + Sync, S: Source, K: Sink, G: Gate + Sync>(
     gate: &G,
 ) -> Ending
     requires runnable { IsRunnable programs.KmpMp order.now }
-    ensures ends { Ends S.left S.faults K.held K.faults (input_limit order.now) (IsDue order.now)
-        source.old source.new sink.old sink.new result.status }
+    ensures ends { EndsOrder S.left S.faults K.held K.faults IsDue order.now source.old source.new sink.old sink.new result.status }
     ensures tells { Tells S.left S.faults (Ok order.now) source.old source.new sink.old sink.new result.status result.split.items }
 {
     match order {
         Order::Run { setup, input } => obey_run(rt, alloc, setup, *input, source, sink, gate),
-        Order::Asm { .. } | Order::Replay => unreachable!(),
+        Order::Asm { .. } | Order::Replay | Order::Trial { .. } => unreachable!(),
     }
 }

@@ -12,6 +12,7 @@ Options:
   --machine=plain    unpipelined cores over flat memory; so without it
   --cores=N          1 to 8 cores; without it 1
   --budget=N         1 to 100000 cycles for each core; without it 20000
+  --seed=N           0 to 4294967295, where what is drawn begins; without it 0
   --memory=N         16 to 16777216 bytes of memory, a multiple of 8; without it 65536
   --image            the input is an image, which tells its memory; without it a source
 

@@ -1,6 +1,6 @@
 -- What options come to.
 use Rattle.std.proofs.Common.{◌≡◌, ℕ, ◌+◌, ◌^◌, ◌<◌, ◌≤◌, Bool, true, false, List, Bor, length, get_or, drop, [], ◌∷◌, Option, Some, None}
-use Rattle.std.proofs.Common.{option_and_then, option_map, Result, Ok, Err, codes, decimal, refl, sym, subst, arith}
+use Rattle.std.proofs.Common.{◌⊎◌, option_and_then, option_map, Result, Ok, Err, codes, decimal, refl, sym, subst, inl, inr, arith}
 use Rattle.kmp_base.specs.Limits.{IsWithinLimits}
 use Rattle.std.specs.Prelude.{IfSome, is_some, nat_lt, nat_le, ◌&&◌, if◌then◌else◌}
 use Rattle.std.specs.Str.{bytes_eq}
@@ -29,7 +29,7 @@ use Rattle.kmp_words.specs.declared.fault.WordCause.TheVariants.{UnknownOption, 
 use Rattle.kmp_base.specs.Bind.{◌>>=◌}
 use Rattle.kmp_words.specs.Words.{name_in, value_in, number_in, lines_of, no_options, options_of, stands_in, with_option, at_word}
 use Rattle.kmp_words.specs.Words.{fault_where, option_in, options_from, number_within, machine_names, turns_names, or_default, setup_of}
-use Rattle.kmp_words.specs.Words.{memory_lines, input_of, order_of, command_names, texts_of, IsProperInput, IsRunnable}
+use Rattle.kmp_words.specs.Words.{memory_lines, input_of, order_of, command_names, texts_of, AreTurnsOf, IsProperInput, IsRunnable}
 
 -- a text that isn't a name differs from it
 pub differs : (name text : List ℕ) → (text ≡ name → ⊥) → bytes_eq name text ≡ false
@@ -70,7 +70,7 @@ no_number_within least most text few none =
 abbrev pub count_of : Options → ℕ
 count_of options =
     option_len options.machine + option_len options.cores + option_len options.budget + option_len options.turns
-    + option_len options.memory + option_len options.image
+    + option_len options.seed + option_len options.size + option_len options.memory + option_len options.image
 
 none_len : {A : Type 0} (o : Option A) → is_some o ≡ false → option_len o ≡ 0
 none_len None none = refl
@@ -100,6 +100,12 @@ with_counts options more names.Budget word (Some text) once is =
 with_counts options more names.Turns word (Some text) once is =
     let p = puts_of (λ order. record options { turns = Some order }) (named turns_names text) more is in
     let none = none_len options.turns once in rw p.puts (omega (arith, none))
+with_counts options more names.Seed word (Some text) once is =
+    let p = puts_of (λ seed. record options { seed = Some seed }) (number_within 0 4294967295 text) more is in
+    let none = none_len options.seed once in rw p.puts (omega (arith, none))
+with_counts options more names.Size word (Some text) once is =
+    let p = puts_of (λ size. record options { size = Some size }) (number_within 0 1000 text) more is in
+    let none = none_len options.size once in rw p.puts (omega (arith, none))
 with_counts options more names.Memory word (Some text) once is =
     let p = puts_of (λ lines. record options { memory = Some (lines, word) }) (option_and_then lines_of (number_in text)) more is in
     let none = none_len options.memory once in rw p.puts (omega (arith, none))
@@ -110,6 +116,8 @@ with_counts options more names.Machine word None once is = absurd cc
 with_counts options more names.Cores word None once is = absurd cc
 with_counts options more names.Budget word None once is = absurd cc
 with_counts options more names.Turns word None once is = absurd cc
+with_counts options more names.Seed word None once is = absurd cc
+with_counts options more names.Size word None once is = absurd cc
 with_counts options more names.Memory word None once is = absurd cc
 with_counts options more names.Image word (Some text) once is = absurd cc
 
@@ -153,7 +161,8 @@ pub record AreProper (options : Options) : Type 0 where
   pub machine_is : IfSome options.machine (λ machine. machine ≡ machines.Plain)
   pub cores_are : IfSome options.cores (λ cores. (1 ≤ cores) × (cores ≤ 8))
   pub budget_is : IfSome options.budget (λ budget. (1 ≤ budget) × (budget ≤ 100000))
-  pub turns_are : IfSome options.turns (λ order. order ≡ turns.Round)
+  pub turns_are : IfSome options.turns (AreTurnsOf programs.Kmp)
+  pub size_is : IfSome options.size (λ size. size ≤ 1000)
   pub memory_is : IfSome options.memory (λ m. IsProperInput (inputs.Source m.0))
 
 lines_proper : (bytes lines : ℕ) → lines_of bytes ≡ Some lines → IsProperInput (inputs.Source lines)
@@ -173,6 +182,12 @@ within_bounds least most (Some number) n is = grind (arith, nat_tests)
 one_value : {T : Type 0} (found : Bool) (value other : T) → (if found then Some value else None) ≡ Some other → other ≡ value
 one_value found value other is = sym (same_Some value other (cond_some_parts found (Some value) other is).1)
 
+-- those of a table of two
+two_values : {T : Type 0} (first second : Bool) (one two other : T)
+    → (if first then Some one else if second then Some two else None) ≡ Some other → (other ≡ one) ⊎ (other ≡ two)
+two_values true second one two other is = inl (sym (same_Some one other is))
+two_values false second one two other is = inr (one_value second two other is)
+
 with_proper : (options more : Options) (name : OptionName) (word : ℕ) (value : Option (List ℕ))
     → with_option options name word value ≡ Some more → AreProper options → AreProper more
 with_proper options more names.Machine word (Some text) is before =
@@ -182,6 +197,7 @@ with_proper options more names.Machine word (Some text) is before =
       cores_are = before.cores_are;
       budget_is = before.budget_is;
       turns_are = before.turns_are;
+      size_is = before.size_is;
       memory_is = before.memory_is;
     })
 with_proper options more names.Cores word (Some text) is before =
@@ -191,6 +207,7 @@ with_proper options more names.Cores word (Some text) is before =
       cores_are = within_bounds 1 8 (number_in text) p.it p.is;
       budget_is = before.budget_is;
       turns_are = before.turns_are;
+      size_is = before.size_is;
       memory_is = before.memory_is;
     })
 with_proper options more names.Budget word (Some text) is before =
@@ -200,6 +217,7 @@ with_proper options more names.Budget word (Some text) is before =
       cores_are = before.cores_are;
       budget_is = within_bounds 1 100000 (number_in text) p.it p.is;
       turns_are = before.turns_are;
+      size_is = before.size_is;
       memory_is = before.memory_is;
     })
 with_proper options more names.Turns word (Some text) is before =
@@ -208,7 +226,28 @@ with_proper options more names.Turns word (Some text) is before =
       machine_is = before.machine_is;
       cores_are = before.cores_are;
       budget_is = before.budget_is;
-      turns_are = one_value _ turns.Round p.it p.is;
+      turns_are = two_values _ _ turns.Round turns.Seeded p.it p.is;
+      size_is = before.size_is;
+      memory_is = before.memory_is;
+    })
+with_proper options more names.Seed word (Some text) is before =
+    let p = puts_of (λ seed. record options { seed = Some seed }) (number_within 0 4294967295 text) more is in
+    rw p.puts (record {
+      machine_is = before.machine_is;
+      cores_are = before.cores_are;
+      budget_is = before.budget_is;
+      turns_are = before.turns_are;
+      size_is = before.size_is;
+      memory_is = before.memory_is;
+    })
+with_proper options more names.Size word (Some text) is before =
+    let p = puts_of (λ size. record options { size = Some size }) (number_within 0 1000 text) more is in
+    rw p.puts (record {
+      machine_is = before.machine_is;
+      cores_are = before.cores_are;
+      budget_is = before.budget_is;
+      turns_are = before.turns_are;
+      size_is = (within_bounds 0 1000 (number_in text) p.it p.is).1;
       memory_is = before.memory_is;
     })
 with_proper options more names.Memory word (Some text) is before =
@@ -218,6 +257,7 @@ with_proper options more names.Memory word (Some text) is before =
       cores_are = before.cores_are;
       budget_is = before.budget_is;
       turns_are = before.turns_are;
+      size_is = before.size_is;
       memory_is = memory_proper (number_in text) p.it p.is;
     })
 with_proper options more names.Image word None is before =
@@ -227,12 +267,15 @@ with_proper options more names.Image word None is before =
       cores_are = before.cores_are;
       budget_is = before.budget_is;
       turns_are = before.turns_are;
+      size_is = before.size_is;
       memory_is = before.memory_is;
     })
 with_proper options more names.Machine word None is before = absurd cc
 with_proper options more names.Cores word None is before = absurd cc
 with_proper options more names.Budget word None is before = absurd cc
 with_proper options more names.Turns word None is before = absurd cc
+with_proper options more names.Seed word None is before = absurd cc
+with_proper options more names.Size word None is before = absurd cc
 with_proper options more names.Memory word None is before = absurd cc
 with_proper options more names.Image word (Some text) is before = absurd cc
 
@@ -257,7 +300,7 @@ pub options_proper : (command : Command) (texts : List (List ℕ)) (options : Op
     → AreProper options
 options_proper command texts options is =
     from_proper command 2 no_options options texts is
-    (record { machine_is = tt; cores_are = tt; budget_is = tt; turns_are = tt; memory_is = tt })
+    (record { machine_is = tt; cores_are = tt; budget_is = tt; turns_are = tt; size_is = tt; memory_is = tt })
 
 lines_within : (memory : Option (ℕ × ℕ)) → IfSome memory (λ m. IsProperInput (inputs.Source m.0))
     → IsProperInput (inputs.Source (option_map_or (λ m. m.0) memory 8192))
@@ -304,18 +347,21 @@ IsOf programs.KmpMp other = ⊥
 
 pub named_is_of : (program : Program) (text : List ℕ) (command : Command) → named (command_names program) text ≡ Some command
     → IsOf program command
-named_is_of programs.Kmp text command is = by_tests (bytes_eq (codes "run") text) (bytes_eq (codes "asm") text) (bytes_eq (codes "replay") text) command is
+named_is_of programs.Kmp text command is =
+    by_tests (bytes_eq (codes "run") text) (bytes_eq (codes "asm") text) (bytes_eq (codes "replay") text) (bytes_eq (codes "trial") text) command is
   where
-    by_tests : (run asm replay : Bool) (command : Command)
-        → (if run then Some commands.Run else if asm then Some commands.Asm else if replay then Some commands.Replay else None) ≡ Some command
-        → IsOf programs.Kmp command
-    by_tests run asm replay commands.Run is = tt
-    by_tests run asm replay commands.Asm is = tt
-    by_tests run asm replay commands.Replay is = tt
-    by_tests true asm replay commands.RunOnThreads is = absurd cc
-    by_tests false true replay commands.RunOnThreads is = absurd cc
-    by_tests false false true commands.RunOnThreads is = absurd cc
-    by_tests false false false commands.RunOnThreads is = absurd cc
+    by_tests : (run asm replay trial : Bool) (command : Command)
+        → (if run then Some commands.Run else if asm then Some commands.Asm else if replay then Some commands.Replay
+        else if trial then Some commands.Trial else None) ≡ Some command → IsOf programs.Kmp command
+    by_tests run asm replay trial commands.Run is = tt
+    by_tests run asm replay trial commands.Asm is = tt
+    by_tests run asm replay trial commands.Replay is = tt
+    by_tests run asm replay trial commands.Trial is = tt
+    by_tests true asm replay trial commands.RunOnThreads is = absurd cc
+    by_tests false true replay trial commands.RunOnThreads is = absurd cc
+    by_tests false false true trial commands.RunOnThreads is = absurd cc
+    by_tests false false false true commands.RunOnThreads is = absurd cc
+    by_tests false false false false commands.RunOnThreads is = absurd cc
 named_is_of programs.KmpMp text command is =
     subst (IsOf programs.KmpMp) (sym (one_value (bytes_eq (codes "run") text) commands.RunOnThreads command is)) tt
 
@@ -326,7 +372,7 @@ order_runnable programs.Kmp commands.Run options is proper = (
   record {
     limits = setup_limits options proper;
     plain = setup_plain options proper;
-    turns = meant (λ order. order ≡ turns.Round) turns.Round options.turns refl proper.turns_are;
+    turns = meant (AreTurnsOf programs.Kmp) turns.Round options.turns (inl refl) proper.turns_are;
   },
   input_is_proper options proper,
 )
@@ -349,10 +395,19 @@ order_runnable programs.KmpMp commands.RunOnThreads options is proper = (
 )
 order_runnable programs.Kmp commands.Asm options is proper = lines_within options.memory proper.memory_is
 order_runnable programs.Kmp commands.Replay options is proper = tt
+order_runnable programs.Kmp commands.Trial options is proper = (
+  record {
+    limits = setup_limits options proper;
+    plain = setup_plain options proper;
+    turns = meant (AreTurnsOf programs.Kmp) turns.Round options.turns (inl refl) proper.turns_are;
+  },
+  meant (λ size. size ≤ 1000) 100 options.size (omega arith) proper.size_is,
+)
 order_runnable programs.Kmp commands.RunOnThreads options is proper = absurd is
 order_runnable programs.KmpMp commands.Run options is proper = absurd is
 order_runnable programs.KmpMp commands.Asm options is proper = absurd is
 order_runnable programs.KmpMp commands.Replay options is proper = absurd is
+order_runnable programs.KmpMp commands.Trial options is proper = absurd is
 
 -- the options behind a word
 pub options_go_on : (command : Command) (word : ℕ) (options next : Options) (texts : List (Bor (List ℕ))) (i : ℕ) (d : Bor (List ℕ))

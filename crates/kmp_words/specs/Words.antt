@@ -1,5 +1,5 @@
 -- What the words of the command line ask for.
-use Rattle.std.specs.Prelude.{◌≡◌, ℕ, ◌≤◌, ◌+◌, ◌/◌, ◌%◌, ◌^◌, ◌==◌, ◌&&◌, Bool, not, nat_le, if◌then◌else◌, List, [], ◌∷◌, length, drop}
+use Rattle.std.specs.Prelude.{◌≡◌, ◌⊎◌, ℕ, ◌≤◌, ◌+◌, ◌/◌, ◌%◌, ◌^◌, ◌==◌, ◌&&◌, Bool, not, nat_le, if◌then◌else◌, List, [], ◌∷◌, length, drop}
 use Rattle.std.specs.Prelude.{take_while, map, codes, decimal, max, Option, Some, None, is_some, option_map, option_and_then, Result, Ok}
 use Rattle.std.specs.Prelude.{Err}
 use Rattle.std.specs.Borrow.{Bor}
@@ -37,18 +37,22 @@ texts_of words = map (λ (word : Bor (List ℕ)). word.now) words
 
 -- the commands of each program
 abbrev pub command_names : Program → List (List ℕ × Command)
-command_names programs.Kmp = (codes "run", commands.Run) ∷ (codes "asm", commands.Asm) ∷ (codes "replay", commands.Replay) ∷ []
+command_names programs.Kmp =
+    (codes "run", commands.Run) ∷ (codes "asm", commands.Asm) ∷ (codes "replay", commands.Replay) ∷ (codes "trial", commands.Trial) ∷ []
 command_names programs.KmpMp = (codes "run", commands.RunOnThreads) ∷ []
 
--- the options of a run whose cores are on threads
-abbrev pub threads_options : List (List ℕ × OptionName)
-threads_options =
+-- the options of every machine
+abbrev pub machine_options : List (List ℕ × OptionName)
+machine_options =
     (codes "--machine", names.Machine)
     ∷ (codes "--cores", names.Cores)
     ∷ (codes "--budget", names.Budget)
-    ∷ (codes "--memory", names.Memory)
-    ∷ (codes "--image", names.Image)
+    ∷ (codes "--seed", names.Seed)
     ∷ []
+
+-- the options of a run whose cores are on threads
+abbrev pub threads_options : List (List ℕ × OptionName)
+threads_options = (codes "--memory", names.Memory) ∷ (codes "--image", names.Image) ∷ machine_options
 
 -- the options of each command
 abbrev pub options_of : Command → List (List ℕ × OptionName)
@@ -56,6 +60,7 @@ options_of commands.Run = (codes "--turns", names.Turns) ∷ threads_options
 options_of commands.RunOnThreads = threads_options
 options_of commands.Asm = (codes "--memory", names.Memory) ∷ []
 options_of commands.Replay = []
+options_of commands.Trial = (codes "--turns", names.Turns) ∷ (codes "--size", names.Size) ∷ machine_options
 
 -- The name in a word: what stands before its first `=`.
 abbrev pub name_in : List ℕ → List ℕ
@@ -85,11 +90,11 @@ abbrev pub machine_names : List (List ℕ × MachineKind)
 machine_names = with_names machine_name (machines.Plain ∷ [])
 
 abbrev pub turns_names : List (List ℕ × Turns)
-turns_names = with_names turns_name (turns.Round ∷ [])
+turns_names = with_names turns_name (turns.Round ∷ turns.Seeded ∷ [])
 
 -- no option
 abbrev pub no_options : Options
-no_options = record { machine = None; cores = None; budget = None; turns = None; memory = None; image = None }
+no_options = record { machine = None; cores = None; budget = None; turns = None; seed = None; size = None; memory = None; image = None }
 
 -- whether an option stands already
 abbrev pub stands_in : Options → OptionName → Bool
@@ -97,6 +102,8 @@ stands_in options names.Machine = is_some options.machine
 stands_in options names.Cores = is_some options.cores
 stands_in options names.Budget = is_some options.budget
 stands_in options names.Turns = is_some options.turns
+stands_in options names.Seed = is_some options.seed
+stands_in options names.Size = is_some options.size
 stands_in options names.Memory = is_some options.memory
 stands_in options names.Image = is_some options.image
 
@@ -110,6 +117,10 @@ with_option options names.Budget word (Some text) =
     option_map (λ budget. record options { budget = Some budget }) (number_within 1 100000 text)
 with_option options names.Turns word (Some text) =
     option_map (λ turns. record options { turns = Some turns }) (named turns_names text)
+with_option options names.Seed word (Some text) =
+    option_map (λ seed. record options { seed = Some seed }) (number_within 0 4294967295 text)
+with_option options names.Size word (Some text) =
+    option_map (λ size. record options { size = Some size }) (number_within 0 1000 text)
 with_option options names.Memory word (Some text) =
     option_map (λ lines. record options { memory = Some (lines, word) }) (option_and_then lines_of (number_in text))
 with_option options names.Image word None = Some (record options { image = Some word })
@@ -152,7 +163,7 @@ setup_of options = record {
   budget = or_default 20000 options.budget;
   policy = policies.Fifo;
   turns = or_default turns.Round options.turns;
-  seed = 0;
+  seed = or_default 0 options.seed;
   sets = 16;
   ways = 1;
 }
@@ -171,6 +182,7 @@ order_of commands.Run options = orders.Run (setup_of options) (input_of options)
 order_of commands.RunOnThreads options = orders.Run (record (setup_of options) { turns = turns.Threads }) (input_of options)
 order_of commands.Asm options = orders.Asm (memory_lines options)
 order_of commands.Replay options = orders.Replay
+order_of commands.Trial options = orders.Trial (setup_of options) (or_default 100 options.size)
 
 -- options of which none excludes another
 abbrev pub together : Options → Result Options WordFault
@@ -193,20 +205,21 @@ abbrev pub IsProperInput : Input → Type 0
 IsProperInput (inputs.Source memory_lines) = (2 ≤ memory_lines) × (memory_lines ≤ 2097152)
 IsProperInput inputs.Image = Unit {0}
 
--- how the cores of a program's runs have their cycles
-abbrev pub turns_of : Program → Turns
-turns_of programs.Kmp = turns.Round
-turns_of programs.KmpMp = turns.Threads
+-- how the cores of a program's runs may have their cycles
+abbrev pub AreTurnsOf : Program → Turns → Type 0
+AreTurnsOf programs.Kmp order = (order ≡ turns.Round) ⊎ (order ≡ turns.Seeded)
+AreTurnsOf programs.KmpMp order = order ≡ turns.Threads
 
 -- What a run of a program can be asked for by now: unpipelined cores.
 pub record IsRunnableSetup (program : Program) (setup : Setup) : Type 0 where
   pub limits : IsWithinLimits setup
   pub plain : setup.machine ≡ machines.Plain
-  pub turns : setup.turns ≡ turns_of program
+  pub turns : AreTurnsOf program setup.turns
 
 -- an order that the program can carry out
 abbrev pub IsRunnable : Program → Order → Type 0
 IsRunnable program (orders.Run setup input) = IsRunnableSetup program setup × IsProperInput input
 IsRunnable programs.Kmp (orders.Asm memory_lines) = IsProperInput (inputs.Source memory_lines)
 IsRunnable programs.Kmp orders.Replay = Unit {0}
+IsRunnable programs.Kmp (orders.Trial setup size) = IsRunnableSetup programs.Kmp setup × (size ≤ 1000)
 IsRunnable programs.KmpMp other = ⊥

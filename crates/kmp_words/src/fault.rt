@@ -21,10 +21,11 @@ impl WordCause {
     /// What is wrong, and what to do.
     fn text(self) -> &'static str {
         match self {
-            WordCause::NoCommand(Program::Kmp) => "there is no command; write run, asm or replay",
+            WordCause::NoCommand(Program::Kmp) =>
+                "there is no command; write run, asm, replay or trial",
             WordCause::NoCommand(Program::KmpMp) => "there is no command; write run",
             WordCause::UnknownCommand(Program::Kmp) => {
-                "there is no such command; write run, asm or replay"
+                "there is no such command; write run, asm, replay or trial"
             }
             WordCause::UnknownCommand(Program::KmpMp) => "there is no such command; write run",
             WordCause::UnknownOption => {

@@ -121,9 +121,9 @@ fn spelled(alloc: Global, bytes: &[u8]) -> Result<Loaded, LoadFault>
     })
 }
 
-/// The program that bytes mean.
+/// The program that bytes mean, as an input of so many.
 #[tactic(auto, unfolding(crate::specs::Input::meaning_of))]
-fn loaded_from(alloc: Global, input: Input, bytes: &[u8]) -> Result<Loaded, LoadFault>
+pub fn loaded_from(alloc: Global, input: Input, bytes: &[u8]) -> Result<Loaded, LoadFault>
     requires proper { IsProperInput input }
     requires size { length bytes.now ≤ limit_of input }
     ensures meaning { Gives (meaning_of input bytes.now) result }

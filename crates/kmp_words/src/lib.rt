@@ -9,7 +9,7 @@ mod program;
 mod words;
 
 pub use fault::{WordCause, WordFault};
-pub use input::{IMAGE_LIMIT, Input, LoadFault, Loaded, Refusal, SOURCE_LIMIT, load};
+pub use input::{IMAGE_LIMIT, Input, LoadFault, Loaded, Refusal, SOURCE_LIMIT, load, loaded_from};
 pub use order::Order;
 pub use program::Program;
 pub use words::read_words;

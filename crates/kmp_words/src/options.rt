@@ -1,7 +1,7 @@
 //! Commands and their options.
 ghost use Rattle.std.specs.Prelude.{◌≡◌, option_and_then, option_copied};
 ghost use Rattle.kmp_base.specs.Names.{named};
-ghost use Rattle.kmp_words.specs.Words.{command_names, options_of, number_in, lines_of, number_within, machine_names, turns_names, stands_in, with_option, excluded_at, memory_lines, setup_of};
+ghost use Rattle.kmp_words.specs.Words.{command_names, options_of, machine_options, number_in, lines_of, number_within, machine_names, turns_names, stands_in, with_option, excluded_at, memory_lines, or_default, setup_of};
 
 use crate::program::Program;
 use kmp_base::{MOST_BUDGET, MOST_CORES, MachineKind, Policy, Setup, Turns, decimal_of, named};
@@ -14,6 +14,7 @@ pub enum Command {
     RunOnThreads,
     Asm,
     Replay,
+    Trial,
 }
 
 #[derive(Clone, Copy)]
@@ -26,6 +27,10 @@ pub enum OptionName {
     Budget,
     /// `--turns=X`: the order of the cores' cycles.
     Turns,
+    /// `--seed=N`: where what is drawn begins.
+    Seed,
+    /// `--size=N`: so many blocks of a drawn source.
+    Size,
     /// `--memory=N`: so many bytes of memory.
     Memory,
     /// `--image`: the input is an image.
@@ -39,11 +44,16 @@ pub struct Options {
     pub cores: Option<u32>,
     pub budget: Option<u32>,
     pub turns: Option<Turns>,
+    pub seed: Option<u32>,
+    pub size: Option<u32>,
     /// The lines of memory, and the number of the word that says so.
     pub memory: Option<(u32, u32)>,
     /// The number of the word `--image`.
     pub image: Option<u32>,
 }
+
+/// The most blocks of a drawn source.
+const MOST_SIZE: u32 = 1000;
 
 /// The lines of memory where no option says otherwise.
 const MEMORY_LINES: u32 = 8192;
@@ -68,6 +78,7 @@ impl Command {
             Command::RunOnThreads => threads_option(name),
             Command::Asm => asm_option(name),
             Command::Replay => None,
+            Command::Trial => trial_option(name),
         }
     }
 }
@@ -79,6 +90,7 @@ fn kmp_command(name: &str) -> Option<Command>
         "run" => Some(Command::Run),
         "asm" => Some(Command::Asm),
         "replay" => Some(Command::Replay),
+        "trial" => Some(Command::Trial),
         _ => None,
     }
 }
@@ -105,11 +117,30 @@ fn threads_option(name: &str) -> Option<OptionName>
     ensures value { result ≡ named (options_of Command.RunOnThreads) name.now }
 {
     match name {
+        "--memory" => Some(OptionName::Memory),
+        "--image" => Some(OptionName::Image),
+        _ => machine_option(name),
+    }
+}
+
+fn trial_option(name: &str) -> Option<OptionName>
+    ensures value { result ≡ named (options_of Command.Trial) name.now }
+{
+    match name {
+        "--turns" => Some(OptionName::Turns),
+        "--size" => Some(OptionName::Size),
+        _ => machine_option(name),
+    }
+}
+
+fn machine_option(name: &str) -> Option<OptionName>
+    ensures value { result ≡ named machine_options name.now }
+{
+    match name {
         "--machine" => Some(OptionName::Machine),
         "--cores" => Some(OptionName::Cores),
         "--budget" => Some(OptionName::Budget),
-        "--memory" => Some(OptionName::Memory),
-        "--image" => Some(OptionName::Image),
+        "--seed" => Some(OptionName::Seed),
         _ => None,
     }
 }
@@ -138,7 +169,7 @@ fn machine_named(name: &str) -> Option<MachineKind>
 fn turns_named(name: &str) -> Option<Turns>
     ensures value { result ≡ named turns_names name.now }
 {
-    let turns = [Turns::Round];
+    let turns = [Turns::Round, Turns::Seeded];
     named(&turns.map(|turns| (turns.name(), turns)), name.as_bytes())
 }
 
@@ -180,6 +211,8 @@ impl Options {
         cores: None,
         budget: None,
         turns: None,
+        seed: None,
+        size: None,
         memory: None,
         image: None,
     };
@@ -193,6 +226,8 @@ impl Options {
             OptionName::Cores => self.cores.is_some(),
             OptionName::Budget => self.budget.is_some(),
             OptionName::Turns => self.turns.is_some(),
+            OptionName::Seed => self.seed.is_some(),
+            OptionName::Size => self.size.is_some(),
             OptionName::Memory => self.memory.is_some(),
             OptionName::Image => self.image.is_some(),
         }
@@ -217,6 +252,14 @@ impl Options {
             }),
             (OptionName::Turns, Some(text)) => Some(Options {
                 turns: Some(turns_named(text)?),
+                ..self
+            }),
+            (OptionName::Seed, Some(text)) => Some(Options {
+                seed: Some(number_within(0, u32::MAX, text)?),
+                ..self
+            }),
+            (OptionName::Size, Some(text)) => Some(Options {
+                size: Some(number_within(0, MOST_SIZE, text)?),
                 ..self
             }),
             (OptionName::Memory, Some(text)) => {
@@ -254,6 +297,13 @@ impl Options {
         }
     }
 
+    /// The blocks of a drawn source.
+    pub fn size(&self) -> u32
+        ensures value { result ≡ or_default 100 self.now.size }
+    {
+        self.size.unwrap_or(100)
+    }
+
     /// The setup of a run.
     pub fn setup(&self) -> Setup
         ensures value { result ≡ setup_of self.now }
@@ -264,7 +314,7 @@ impl Options {
             budget: self.budget.unwrap_or(20_000),
             policy: Policy::Fifo,
             turns: self.turns.unwrap_or(Turns::Round),
-            seed: 0,
+            seed: self.seed.unwrap_or(0),
             sets: 16,
             ways: 1,
         }

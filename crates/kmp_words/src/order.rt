@@ -11,4 +11,6 @@ pub enum Order {
     Asm { memory_lines: u32 },
     /// Check a report.
     Replay,
+    /// Run the source of so many blocks that the setup's seed draws, and report the sum of the run.
+    Trial { setup: Setup, size: u32 },
 }

@@ -15,6 +15,8 @@ mod images;
 #[cfg(test)]
 mod memories;
 #[cfg(test)]
+mod seeded;
+#[cfg(test)]
 mod threads;
 #[cfg(test)]
 mod turns;

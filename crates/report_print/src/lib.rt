@@ -4,4 +4,4 @@
 mod print;
 mod spell;
 
-pub use print::print_report;
+pub use print::{print_report, put_rows};

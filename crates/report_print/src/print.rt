@@ -15,7 +15,8 @@ use kmp_base::{Row, Sink, WriteFault, put};
 use report_text::{Counts, MemoryWord, Report};
 use timetable::CoreEnd;
 
-fn put_rows<K: Sink>(rows: &[Row], sink: &mut K) -> Result<(), WriteFault>
+/// Puts rows in order, one in a put. It ends at the first write that fails.
+pub fn put_rows<K: Sink>(rows: &[Row], sink: &mut K) -> Result<(), WriteFault>
     ensures { Writes K.held K.faults sink.old sink.new result (flat_map (λ row. row) rows.now) }
 {
     for row in rows {

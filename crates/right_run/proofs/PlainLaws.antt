@@ -5,7 +5,7 @@ use Rattle.kmp_base.specs.declared.setup.Setup.{Setup}
 use Rattle.kmp_base.specs.declared.setup.MachineKind.{MachineKind}
 use Rattle.kmp_base.specs.declared.setup.MachineKind.TheVariants.{Plain, Pipe, Full}
 use Rattle.kmp_base.specs.declared.setup.Turns.{Turns}
-use Rattle.kmp_base.specs.declared.setup.Turns.TheVariants.{Round}
+use Rattle.kmp_base.specs.declared.setup.Turns.TheVariants.{Round, Seeded}
 use Rattle.mips_isa.specs.Steps.{next_of}
 use Rattle.image_file.specs.Value.{ImageValue, memory_bytes, start_memory, start_states}
 use Rattle.access_log.specs.declared.Entry.{Entry}
@@ -15,7 +15,8 @@ use Rattle.access_log.specs.Replay.{own, replay}
 use Rattle.timetable.specs.declared.CoreEnd.{CoreEnd}
 use Rattle.timetable.specs.Outcome.{OutcomeValue, final_of}
 use Rattle.right_run.specs.Cycles.{IsPlainEnd}
-use Rattle.right_run.specs.Turns.{IsInRounds, IsInTurnsOn, IsInTurns}
+use Rattle.right_run.specs.Seeded.{AreSeeded}
+use Rattle.right_run.specs.Turns.{in_cycles, IsInRounds, IsInTurnsOn, IsInTurns}
 use Rattle.right_run.specs.Right.{EndsOn, FollowsOn, IsRight}
 
 pub record IsRightOnPlain (setup : Setup) (image : ImageValue) (outcome : OutcomeValue) : Type 0 where
@@ -58,9 +59,15 @@ right-from_plain setup image outcome right = record {
   follows = subst (λ (m : MachineKind). FollowsOn m setup.cores image outcome.items) (sym right.plain) right.no_transaction;
 }
 
--- Cores that have their cycles in rounds.
-pub turns-rounds : (setup : Setup) (order : List Entry) → setup.machine ≡ Plain → setup.turns ≡ Round → IsInRounds order
-    → IsInTurns setup order
-turns-rounds setup order plain round h =
-    subst (λ (m : MachineKind). IsInTurnsOn setup.turns m order) (sym plain)
-    (subst (λ (t : Turns). IsInTurnsOn t Plain order) (sym round) h)
+-- The order of cores by their turns.
+module _ (setup : Setup) (cycles : List ℕ) (order : List Entry) (plain : setup.machine ≡ Plain) where
+  in-turns : (turns : Turns) → setup.turns ≡ turns → IsInTurnsOn turns Plain setup.seed cycles order → IsInTurns setup cycles order
+  in-turns turns is h =
+      subst (λ (m : MachineKind). IsInTurnsOn setup.turns m setup.seed cycles order) (sym plain)
+      (subst (λ (t : Turns). IsInTurnsOn t Plain setup.seed cycles order) (sym is) h)
+
+  pub turns-rounds : setup.turns ≡ Round → IsInRounds order → IsInTurns setup cycles order
+  turns-rounds is h = in-turns Round is h
+
+  pub turns-seeded : setup.turns ≡ Seeded → AreSeeded setup.seed cycles (in_cycles [] order) → IsInTurns setup cycles order
+  turns-seeded is h = in-turns Seeded is h

@@ -1,3 +1,4 @@
 pub mod Cycles
+pub mod Seeded
 pub mod Turns
 pub mod Right

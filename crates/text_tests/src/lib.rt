@@ -11,3 +11,5 @@ mod rows;
 mod sources;
 #[cfg(test)]
 mod streams;
+#[cfg(test)]
+mod workloads;

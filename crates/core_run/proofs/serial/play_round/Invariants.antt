@@ -1,7 +1,7 @@
 use Rattle.std.proofs.Common.{◌≡◌, ℕ, vec_len}
 use Rattle.mem_port.specs.Memory.{IsLawful, Keeps}
 use Rattle.mem_port.specs.ServiceHistory.{ServiceHistory}
-use Rattle.core_run.specs.Serial.{Leads, AreServed}
+use Rattle.core_run.specs.Serial.{Leads, AreInRounds, AreServed}
 use Rattle.core_run.proofs.RoundLemmas.{turns, AreInSlots}
 use Rattle.core_run.proofs.serial.play_round.Given as goal
 
@@ -18,6 +18,6 @@ invariant-loop-index g l =
           → AreInSlots view (turns rounds l.index) l.budget new l.slots.items;
       made : Leads g.M.MemoryCore.makes l.fn.memory l.memory;
       served : (rounds : ℕ) (histories : ℕ → ServiceHistory) → AreInSlots view (λ core. rounds) l.budget old l.fn.slots.items
-          → AreServed view g.E.CoreEngine.timed rounds 0 old l.fn.slots.items histories
-          → (after : ℕ → ServiceHistory) × AreServed view g.E.CoreEngine.timed rounds l.index new l.slots.items after;
+          → AreServed view g.E.CoreEngine.timed (AreInRounds rounds 0) old l.fn.slots.items histories
+          → (after : ℕ → ServiceHistory) × AreServed view g.E.CoreEngine.timed (AreInRounds rounds l.index) new l.slots.items after;
     }

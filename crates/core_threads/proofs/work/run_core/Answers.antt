@@ -44,7 +44,7 @@ loop-done-preserved g c =
     record {
       lane_is = f.core ∙ i.lane_is;
       serves = says.serves_on;
-      on = is-on end none says.on_or_over;
+      on = is-on end (none_from_is_some end none) says.on_or_over;
       kept = keeps-then _ _ _ i.kept says.kept;
       others = g.met.S.CoreSide.goes_on _ _ _ _ i.others says.others;
       made = cycle-more S.makes core l.done _ _ _ i.made

@@ -1,7 +1,6 @@
 use Rattle.kmp_words.specs.Words.{texts_of, words_meaning}
 use Rattle.kmp_words.specs.declared.program.Program.TheVariants as programs
-use Rattle.kmp_call.specs.Outcome.{input_limit}
-use Rattle.kmp_call.proofs.BeneathLaws.{ends_beneath, tells_beneath}
+use Rattle.kmp_call.proofs.BeneathLaws.{order_beneath, tells_beneath}
 use Rattle.kmp_call.proofs.WordLaws.{obeyed_words, told_words}
 use Rattle.kmp_mp.specs.Outcome.{IsDue}
 use Rattle.kmp_mp.proofs.StatusLemmas.{is_of_input}
@@ -10,8 +9,8 @@ use Rattle.kmp_mp.proofs.tool.answer.Goals as goal
 pub returns-in-Ok-clause-obeys : goal.returns-in-Ok-clause-obeys
 returns-in-Ok-clause-obeys g c =
     let order = c.in-Ok.order in
-    let ends = ends_beneath _ _ _ _ _ _ _ _ _ _ _ _ c.in-Ok.ensures.sink c.requires.fresh c.in-Ok.ensures.empty c.end_call.ensures.put
-    (input_limit order) (IsDue order) c.obey-ending.ensures.ends in
+    let ends = order_beneath _ _ _ _ _ _ _ _ _ _ _ _ c.in-Ok.ensures.sink c.requires.fresh c.in-Ok.ensures.empty c.end_call.ensures.put
+    IsDue order c.obey-ending.ensures.ends in
     obeyed_words _ _ (λ words. words_meaning programs.KmpMp (texts_of words.items)) _ _ _ _ _ order _ _ IsDue (is_of_input order) ends
     c.args.words.now c.in-Ok.ensures.order
 

@@ -1,0 +1,7 @@
+//! Sources of random workloads: programs that several cores can run at once, and that differ by a seed and a size.
+#![tactic(auto)]
+
+pub mod laws;
+mod source;
+
+pub use source::source_of;
