@@ -44,6 +44,15 @@ pub fn obey<S: Source, K: Sink>(
     }
 }
 
+// Runs an image in turns, and writes its report.
+fn run<K: Sink>(alloc: Global, setup: &Setup, image: Image, sink: &mut K) -> Status
+    requires runnable { IsRunnableSetup programs.Kmp setup.now }
+    ensures written { Finishes K.held K.faults sink.old sink.new (IsRunDue setup.now (Ok image)) result ⊎ RunsOut sink.old sink.new result }
+{
+    let ran = run_serial(alloc, &image, setup);
+    write_run(alloc, setup, image, ran, sink)
+}
+
 // Reads an input and runs it in turns, or refuses it.
 fn obey_run<S: Source, K: Sink>(
     alloc: Global,
@@ -59,13 +68,10 @@ fn obey_run<S: Source, K: Sink>(
     ensures tells { TellsInput S.left S.faults input source.old source.new sink.old sink.new result.status result.split.items }
 {
     match load(alloc, source, input) {
-        Ok(Loaded { image, split }) => {
-            let ran = run_serial(alloc, &image, setup);
-            Ending {
-                status: write_run(alloc, setup, image, ran, sink),
-                split,
-            }
-        }
+        Ok(Loaded { image, split }) => Ending {
+            status: run(alloc, setup, image, sink),
+            split,
+        },
         Err(fault) => end_unloaded(alloc, fault, sink),
     }
 }

@@ -4,7 +4,7 @@ use Rattle.kmp.proofs.obey.obey_run.Goals as goal
 
 pub returns-in-Ok-clause-ends : goal.returns-in-Ok-clause-ends
 returns-in-Ok-clause-ends g c =
-    meaning_ends _ _ _ _ _ _ _ _ _ _ (IsRunDue c.args.setup.now) _ c.in-Ok.ensures.loads c.write_run.ensures.written
+    meaning_ends _ _ _ _ _ _ _ _ _ _ (IsRunDue c.args.setup.now) _ c.in-Ok.ensures.loads c.run.ensures.written
 
 pub returns-in-Err-clause-ends : goal.returns-in-Err-clause-ends
 returns-in-Err-clause-ends g c =
