@@ -1,4 +1,5 @@
 pub mod LinesLemmas
+pub mod LinesLaws
 pub mod OrderLemmas
 pub mod SizeLemmas
 pub mod TablesLemmas

@@ -14,7 +14,7 @@ use Rattle.kmp_call.specs.Status.{code_of, IsOfInput}
 use Rattle.kmp_call.specs.declared.status.Status.{Status}
 use Rattle.kmp_call.specs.declared.status.Status.TheVariants as statuses
 use Rattle.kmp_call.proofs.CallLaws.{run_is_of_input}
-use Rattle.kmp.specs.Outcome.{IsImageDue, IsCheckDue, IsVerdictDue, trial_image, IsTrialDue, IsDue}
+use Rattle.kmp.specs.Outcome.{IsImageDue, IsCheckDue, IsVerdictDue, IsTrialDue, IsDue}
 
 image_is_of_input : (meaning : Result ImageValue Refusal) (text : List ℕ) (due : Status) → IsImageDue meaning text due → IsOfInput due
 image_is_of_input (Ok image) text due is = inl (ap code_of is.1)
@@ -29,18 +29,17 @@ check_is_of_input bytes text due (inl (report, form, spelled, within, verdict)) 
 check_is_of_input bytes text due (inr (inl (line, bad, within, written, is))) = inr (inr (inl (ap code_of is)))
 check_is_of_input bytes text due (inr (inr (long, written, is))) = inr (inr (inl (ap code_of is)))
 
-trial_is_of_input : (setup : Setup) (size : ℕ) (meaning : Result ImageValue Refusal) (text : List ℕ) (due : Status)
-    → IsTrialDue setup size meaning text due → IsOfInput due
-trial_is_of_input setup size (Ok image) text due (report, is_of, written, is) = by_halts _ is
+trial_is_of_input : (setup : Setup) (size : ℕ) (text : List ℕ) (due : Status) → IsTrialDue setup size text due → IsOfInput due
+trial_is_of_input setup size text due (image, means, (report, is_of, written, is)) = by_halts _ is
   where
     by_halts : (halts : Bool) → due ≡ (if halts then statuses.Done else statuses.OtherEnd) → IsOfInput due
     by_halts true is = inl (ap code_of is)
     by_halts false is = inr (inl (ap code_of is))
-trial_is_of_input setup size (Err refusal) text due is = inr (inr (inl (ap code_of is.1)))
 
 -- what is due for an order has a status of its input
 pub is_of_input : (order : Order) (bytes text : List ℕ) (due : Status) → IsDue order bytes text due → IsOfInput due
 is_of_input (orders.Run setup input) bytes text due is = run_is_of_input setup (image_in (meaning_of input bytes)) text due is
-is_of_input (orders.Asm memory_lines) bytes text due is = image_is_of_input (image_in (meaning_of (inputs.Source memory_lines) bytes)) text due is
+is_of_input (orders.Asm memory_lines) bytes text due is =
+    image_is_of_input (image_in (meaning_of (inputs.Source memory_lines) bytes)) text due is
 is_of_input orders.Replay bytes text due is = check_is_of_input bytes text due is
-is_of_input (orders.Trial setup size) bytes text due is = trial_is_of_input setup size (trial_image setup size) text due is
+is_of_input (orders.Trial setup size) bytes text due is = trial_is_of_input setup size text due is

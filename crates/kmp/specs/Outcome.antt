@@ -48,19 +48,23 @@ IsCheckDue bytes text due =
     × (due ≡ statuses.ReportRefused line))
     ⊎ ((report_limit < length bytes) × (text ≡ too_long_row report_limit) × (due ≡ statuses.InputRefused (TooLong report_limit))))
 
--- The image of the source that a seed draws, of so many blocks, in 65,536 bytes of memory.
-abbrev pub trial_image : Setup → ℕ → Result ImageValue Refusal
-trial_image setup size = image_in (meaning_of (inputs.Source 8192) (source_text setup.seed size))
+-- What the source means that a seed draws, of so many blocks, in 65,536 bytes of memory.
+abbrev pub trial_meaning : Setup → ℕ → Result ImageValue Refusal
+trial_meaning setup size = image_in (meaning_of (inputs.Source 8192) (source_text setup.seed size))
 
--- What is due for a trial with an image: the summary of a right report and the status of its ends.
-abbrev pub IsTrialDue : Setup → ℕ → Result ImageValue Refusal → List ℕ → Status → Type 0
-IsTrialDue setup size (Ok image) text due =
+-- What is due for the trial of an image: the summary of a right report and the status of its ends.
+abbrev pub IsSummaryDue : Setup → ℕ → ImageValue → List ℕ → Status → Type 0
+IsSummaryDue setup size image text due =
     (report : ReportValue) × IsReportOf setup image report × (text ≡ summary_text size report) × (due ≡ status_of report)
-IsTrialDue setup size (Err refusal) text due = IsRefusalDue refusal text due
+
+-- What is due for a trial: its source means an image, and the summary is due for that.
+abbrev pub IsTrialDue : Setup → ℕ → List ℕ → Status → Type 0
+IsTrialDue setup size text due =
+    (image : ImageValue) × (trial_meaning setup size ≡ Ok image) × IsSummaryDue setup size image text due
 
 -- What is due for an order and the bytes of its input.
 abbrev pub IsDue : Order → List ℕ → List ℕ → Status → Type 0
 IsDue (orders.Run setup input) bytes = IsRunDue setup (image_in (meaning_of input bytes))
 IsDue (orders.Asm memory_lines) bytes = IsImageDue (image_in (meaning_of (inputs.Source memory_lines) bytes))
 IsDue orders.Replay bytes = IsCheckDue bytes
-IsDue (orders.Trial setup size) bytes = IsTrialDue setup size (trial_image setup size)
+IsDue (orders.Trial setup size) bytes = IsTrialDue setup size

@@ -1,14 +1,14 @@
 //! A trial: the run of a source that a seed draws, and its summary.
-ghost use Rattle.std.specs.Prelude.{◌≡◌, ◌⊎◌, ◌≤◌, Ok};
+ghost use Rattle.std.specs.Prelude.{◌≡◌, ◌⊎◌, ◌≤◌};
 ghost use Rattle.kmp_words.specs.Words.{IsRunnableSetup};
 ghost use Rattle.kmp_words.specs.declared.program.Program.TheVariants as programs;
 ghost use Rattle.kmp_call.specs.Outcome.{Finishes, RunsOut};
-ghost use Rattle.kmp.specs.Outcome.{trial_image, IsTrialDue};
+ghost use Rattle.kmp.specs.Outcome.{IsSummaryDue, IsTrialDue};
 
 use core_run::run_serial;
 use image_file::Image;
 use kmp_base::{Setup, Sink};
-use kmp_call::{Status, refuse_input, report_run, status_of};
+use kmp_call::{Status, report_run, status_of};
 use kmp_words::{Input, LoadFault, Loaded, loaded_from};
 use report_summary::print_summary;
 use std::alloc::Global;
@@ -21,7 +21,8 @@ const MEMORY_LINES: u32 = 8192;
 fn run_trial<K: Sink>(alloc: Global, setup: &Setup, size: u32, image: Image, sink: &mut K) -> Status
     requires runnable { IsRunnableSetup programs.Kmp setup.now }
     requires size { size ≤ 1000 }
-    ensures written { Finishes K.held K.faults sink.old sink.new (IsTrialDue setup.now size (Ok image)) result ⊎ RunsOut sink.old sink.new result }
+    ensures written { Finishes K.held K.faults sink.old sink.new (IsSummaryDue setup.now size image) result
+        ⊎ RunsOut sink.old sink.new result }
 {
     let ran = run_serial(alloc, &image, setup);
     match report_run(alloc, setup, image, ran) {
@@ -30,18 +31,20 @@ fn run_trial<K: Sink>(alloc: Global, setup: &Setup, size: u32, image: Image, sin
     }
 }
 
-/// Draws a source, runs it in turns, and writes the summary of its report.
+/// Draws a source, which is a program, runs it in turns, and writes the summary of its report.
 pub fn obey_trial<K: Sink>(alloc: Global, setup: &Setup, size: u32, sink: &mut K) -> Status
     requires runnable { IsRunnableSetup programs.Kmp setup.now }
     requires size { size ≤ 1000 }
-    ensures written { Finishes K.held K.faults sink.old sink.new (IsTrialDue setup.now size (trial_image setup.now size)) result ⊎ RunsOut sink.old sink.new result }
+    ensures written { Finishes K.held K.faults sink.old sink.new (IsTrialDue setup.now size) result
+        ⊎ RunsOut sink.old sink.new result }
 {
     let Ok(source) = source_of(alloc, setup.seed, size) else {
         return Status::NoMemory;
     };
     match loaded_from(alloc, Input::Source(MEMORY_LINES), &source) {
         Ok(Loaded { image, split: _ }) => run_trial(alloc, setup, size, image, sink),
-        Err(LoadFault::Refused(refusal)) => refuse_input(refusal, sink),
-        Err(_) => Status::NoMemory,
+        Err(LoadFault::Memory) => Status::NoMemory,
+        Err(LoadFault::Refused(_)) => unreachable!(),
+        Err(LoadFault::Read) => unreachable!(),
     }
 }

@@ -1,16 +1,12 @@
--- Sources block by block, and how long they are.
-use Rattle.std.proofs.Common.{◌≡◌, ℕ, zero, suc, ◌+◌, ◌-◌, ◌*◌, ◌<◌, ◌≤◌, List, [], ◌∷◌, ◌++◌, length, codes, decimal}
-use Rattle.std.proofs.Common.{refl, sym, ap, ◌∙◌, arith, append_assoc, length-append}
-use Rattle.std.specs.Prelude.{◌%◌, slice_index_or}
-use Rattle.std.proofs.lemmas.Fmt.{length-decimal-le}
+-- Sources block by block.
+use Rattle.std.proofs.Common.{◌≡◌, ℕ, suc, ◌+◌, ◌-◌, ◌<◌, ◌≤◌, List, [], ◌∷◌, ◌++◌, codes}
+use Rattle.std.proofs.Common.{refl, sym, ap, ◌∙◌, arith, append_assoc}
 use Rattle.std.proofs.lemmas.List.{flat_map_more}
 use Rattle.std.proofs.lemmas.List.Concat.{flat_map-append}
 use Rattle.rand_core.specs.Steps.{first_words}
-use Rattle.rand_core.specs.Pcg32Seed.{pcg32_seed}
 use Rattle.rand_pcg.specs.Lcg.{Lcg}
-use Rattle.rand_pcg.specs.Pcg.{pcg32, pcg32_of_seed}
-use Rattle.workload_gen.specs.Source.{lines_text, offset_of, amount_of, lines_by_kind, block_lines, blocks_from}
-use Rattle.workload_gen.specs.Source.{words_of, tail_lines, source_text}
+use Rattle.rand_pcg.specs.Pcg.{pcg32}
+use Rattle.workload_gen.specs.Source.{lines_text, block_lines, blocks_from, tail_lines}
 
 -- a line that is appended behind others
 pub line_behind : (text old new : List ℕ) (lines : List (List ℕ)) (line piece : List ℕ) → old ≡ text ++ lines_text lines → piece ≡ line
@@ -26,7 +22,7 @@ lines_left number words = blocks_from number words ++ tail_lines
 lines_text-append : (a b : List (List ℕ)) → lines_text (a ++ b) ≡ lines_text a ++ lines_text b
 lines_text-append a b = flat_map-append (λ (line : List ℕ). line ++ codes "\n") a b
 
-lines_left-more : (number word : ℕ) (words : List ℕ)
+pub lines_left-more : (number word : ℕ) (words : List ℕ)
     → lines_text (lines_left number (word ∷ words)) ≡ lines_text (block_lines number word) ++ lines_text (lines_left (number + 1) words)
 lines_left-more number word words =
     let block = block_lines number word in
@@ -60,40 +56,3 @@ unfolding first_words
 all_moved number size g past =
     let none : size - number ≡ 0 = omega arith in
     rw none refl
-
--- ---- how long they are
-
-short_number : (n : ℕ) → n < 1000 → length (decimal n) ≤ 3
-short_number n small = length-decimal-le 3 n (omega arith) (omega arith) (omega arith)
-
-kind_within : (kind number word : ℕ) → number < 1000 → length (lines_text (slice_index_or (lines_by_kind number word) kind [])) ≤ 63
-kind_within zero number word below = grind (arith, length-append, short_number (offset_of word) (omega arith))
-kind_within (suc zero) number word below =
-    grind (arith, length-append, short_number (offset_of word) (omega arith), short_number (amount_of word) (omega arith))
-kind_within (suc (suc zero)) number word below = grind (arith, length-append, short_number (offset_of word) (omega arith))
-kind_within (suc (suc (suc zero))) number word below = grind (arith, length-append, short_number number below)
-kind_within (suc (suc (suc (suc kind)))) number word below = omega arith
-
--- what is left has 63 bytes for each word at most, and the lines behind them
-left_within : (number : ℕ) (words : List ℕ) → number + length words ≤ 1000
-    → length (lines_text (lines_left number words)) ≤ 63 * length words + 36
-left_within number [] fits = omega arith
-left_within number (word ∷ words) fits =
-    let more = ap length (lines_left-more number word words) in
-    omega (
-      arith,
-      more,
-      length-append (lines_text (block_lines number word)) (lines_text (lines_left (number + 1) words)),
-      kind_within (word % 4) number word (omega arith),
-      left_within (number + 1) words (omega arith),
-    )
-
-length-first_words : (n : ℕ) (g : Lcg) → length (first_words pcg32 n g) ≡ n
-unfolding first_words
-length-first_words zero g = refl
-length-first_words (suc n) g = ap suc (length-first_words n (pcg32 g).1)
-
-pub source_within : (seed size : ℕ) → size ≤ 1000 → length (source_text seed size) ≤ 63 * size + 60
-source_within seed size fits =
-    let count = length-first_words size (pcg32_of_seed (pcg32_seed 16 (seed + 2))) in
-    omega (arith, count, left_within 0 (words_of seed size) (omega (arith, count)))

@@ -17,7 +17,7 @@ fn add_line(text: &mut Vec<u8>, line: &[u8]) -> Result<(), NoMemory>
 }
 
 /// Appends a line with a number between two texts.
-#[tactic(auto, using(kmp_base::proofs::TextLaws::decimal_fits))]
+#[tactic(auto, using(std_laws::proofs::NumberLaws::length_decimal_64))]
 fn add_numbered(text: &mut Vec<u8>, front: &str, number: u32, back: &str) -> Result<(), NoMemory>
     requires { length front.now + length back.now ≤ 100 }
     ensures line { OnOk result

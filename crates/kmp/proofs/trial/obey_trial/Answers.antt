@@ -1,27 +1,30 @@
-use Rattle.std.proofs.Common.{◌≡◌, refl, sym, ap, subst, inl}
-use Rattle.std.specs.Prelude.{Err}
-use Rattle.kmp_words.specs.Input.{meaning_of}
+use Rattle.std.proofs.Common.{◌≡◌, ap, inl, inr}
+use Rattle.std.specs.Prelude.{Ok}
 use Rattle.kmp_words.specs.Loaded.{image_in}
-use Rattle.kmp_words.specs.declared.input.Input.TheVariants as inputs
-use Rattle.kmp_call.specs.Refused.{refusal_row}
-use Rattle.kmp_call.specs.declared.status.Status.TheVariants.{InputRefused}
-use Rattle.workload_gen.specs.Source.{source_text}
-use Rattle.kmp.specs.Outcome.{trial_image, IsTrialDue}
+use Rattle.workload_image.proofs.ProgramLaws.{source_meant}
+use Rattle.kmp.specs.Outcome.{trial_meaning}
 use Rattle.kmp.proofs.trial.obey_trial.Goals as goal
 
-pub returns-in-Err-Refused : goal.returns-in-Err-Refused
-returns-in-Err-Refused g c =
-    let setup = c.args.setup.now in
-    let size = c.args.size in
-    let refusal = c.in-Err-Refused.refusal in
-    let meaning : meaning_of (inputs.Source 8192) (source_text setup.seed size) ≡ Err refusal =
-    rw (c.in-Err-Refused.field-0-is, c.deref.ensures.value, c.in-Ok.ensures.text) at c.in-Err-Refused.ensures.meaning in
-    let is : trial_image setup size ≡ Err refusal = ap image_in meaning in
+pub returns-in-Ok-loaded_from : goal.returns-in-Ok-loaded_from
+returns-in-Ok-loaded_from g c =
+    let loaded = c.in-Ok-loaded_from.field-0 in
+    let meaning = rw (c.deref.ensures.value, c.in-Ok.ensures.text) at c.in-Ok-loaded_from.ensures.meaning in
+    let means : trial_meaning c.args.setup.now c.args.size ≡ Ok loaded.image = ap image_in meaning in
     record {
-      written = inl (record {
-        text = refusal_row refusal;
-        due = InputRefused refusal;
-        is_due = subst (λ image. IsTrialDue setup size image (refusal_row refusal) (InputRefused refusal)) (sym is) (refl, refl);
-        answers = rw c.in-Err-Refused.refusal-is at c.refuse_input.ensures.answers;
-      });
+      written = elim c.run_trial.ensures.written [
+        | inl finishes ↦
+            inl (record {
+              text = finishes.text;
+              due = finishes.due;
+              is_due = (loaded.image, means, finishes.is_due);
+              answers = finishes.answers;
+            })
+        | inr out ↦ inr out
+      ];
     }
+
+pub unreachable-requires : goal.unreachable-requires
+unreachable-requires g c =
+    let meaning = rw (c.in-Err-Refused.field-0-is, c.deref.ensures.value, c.in-Ok.ensures.text) at c.in-Err-Refused.ensures.meaning in
+    let program = source_meant c.args.setup.now.seed c.args.size c.requires.size in
+    absurd cc

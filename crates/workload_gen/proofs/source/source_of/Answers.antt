@@ -1,6 +1,7 @@
 use Rattle.std.proofs.Common.{◌∙◌, ◌++◌, length, ap, sym, arith}
 use Rattle.workload_gen.specs.Source.{lines_text}
-use Rattle.workload_gen.proofs.SourceLemmas.{block_next, all_moved, source_within}
+use Rattle.workload_gen.proofs.SourceLemmas.{block_next, all_moved}
+use Rattle.workload_gen.proofs.SizeLaws.{source_within}
 use Rattle.workload_gen.proofs.source.source_of.Goals as goal
 
 pub loop-number-preserved : goal.loop-number-preserved

@@ -1,0 +1,4 @@
+mod PassesLemmas
+mod BodiesLemmas
+mod LinesLemmas
+pub mod ProgramLaws
