@@ -1,6 +1,8 @@
 //! Runs an assembler source or an image on the machine, each core on a thread of its own, and reports the run.
 #![tactic(auto)]
 
+#[cfg(test)]
+mod gates;
 mod obey;
 mod tool;
 mod usage;

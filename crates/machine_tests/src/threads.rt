@@ -29,7 +29,7 @@ const COUNTER: [u8; 84] =
 /// How often a held core looks before the test fails.
 const MOST_LOOKS: u32 = 100_000_000;
 
-/// A core, of two, is held in a cycle until the other one has come to a cycle.
+/// A core is held in a cycle until all others have come to a cycle.
 #[derive(Drop)]
 struct Hold {
     core: u32,
@@ -37,32 +37,41 @@ struct Hold {
     until: u32,
 }
 
-/// Holds two cores, and counts what it sees.
+/// Holds cores, and counts what it sees.
 #[derive(Drop)]
 struct Holds<'a> {
     holds: &'a [Hold],
+    cores: u32,
     /// How often it was called for each core.
-    calls: [AtomicU64; 2],
-    /// How often it was called with another number than that of the core's next cycle, or another core.
+    calls: [AtomicU64; 8],
+    /// How often it was called with another number than that of the core's next cycle, or for no core.
     misnumbered: AtomicU64,
-    /// How often a core was held until the other one had come.
+    /// How often a core was held until the others had come.
     met: AtomicU64,
 }
 
 impl<'a> Holds<'a> {
-    fn new(holds: &'a [Hold]) -> Holds<'a> {
+    fn new(holds: &'a [Hold], cores: u32) -> Holds<'a> {
         Holds {
             holds,
-            calls: [AtomicU64::new(0), AtomicU64::new(0)],
+            cores,
+            calls: [0; 8].map(AtomicU64::new),
             misnumbered: AtomicU64::new(0),
             met: AtomicU64::new(0),
         }
     }
 
-    /// Waits until a core has come to a cycle.
-    fn wait_for(&self, calls: &AtomicU64, cycle: u32) {
+    /// Whether all other cores have come to a cycle.
+    fn have_come(&self, core: u32, cycle: u32) -> bool {
+        (0..self.cores).zip(&self.calls).all(|(other, calls)| {
+            other == core || calls.load(Ordering::SeqCst) >= u64::from(cycle)
+        })
+    }
+
+    /// Waits until all other cores have come to a cycle.
+    fn wait_for(&self, core: u32, cycle: u32) {
         for _ in 0..MOST_LOOKS {
-            if calls.load(Ordering::SeqCst) >= u64::from(cycle) {
+            if self.have_come(core, cycle) {
                 self.met.fetch_add(1, Ordering::SeqCst);
                 return;
             }
@@ -73,24 +82,23 @@ impl<'a> Holds<'a> {
 
 impl Gate for Holds<'_> {
     fn at(&self, core: u32, cycle: u32) {
-        let [zero, one] = &self.calls;
-        let (own, other) = if core == 0 { (zero, one) } else { (one, zero) };
-        let before = own.fetch_add(1, Ordering::SeqCst);
-        if core > 1 || before.wrapping_add(1) != u64::from(cycle) {
+        let own = self.calls.get(core as usize);
+        let before = own.map(|calls| calls.fetch_add(1, Ordering::SeqCst));
+        if before != Some(u64::from(cycle.saturating_sub(1))) || core >= self.cores {
             self.misnumbered.fetch_add(1, Ordering::SeqCst);
         }
         for hold in self.holds {
             if hold.core == core && hold.cycle == cycle {
-                self.wait_for(other, hold.until);
+                self.wait_for(core, hold.until);
             }
         }
     }
 }
 
-/// What is asked of two unpipelined cores on threads.
-const TWO_CORES: Setup = Setup {
+/// What is asked of unpipelined cores on threads.
+const ON_THREADS: Setup = Setup {
     machine: MachineKind::Plain,
-    cores: 2,
+    cores: 1,
     budget: 100_000,
     policy: Policy::Fifo,
     turns: Turns::Threads,
@@ -99,18 +107,26 @@ const TWO_CORES: Setup = Setup {
     ways: 1,
 };
 
-/// Runs the counter on two cores that are held, each of which counts to 100; the gate was called once
-/// before each cycle, with its number, and each hold met the other core.
+/// Runs the counter on cores that are held, each of which counts to 100; the gate was called once before
+/// each cycle, with its number, and each hold met the other cores.
 fn run_held<R: Threads + Wait + Sync + Abort>(
     rt: &R,
     alloc: Global,
+    cores: u32,
     holds: &[Hold],
-) -> Result<Outcome, Fail> {
+) -> Result<Outcome, Fail>
+    requires some_cores { 1 ≤ cores }
+    requires cores { cores ≤ 8 }
+{
     let image = read_image(alloc, &COUNTER)?;
-    let gate = Holds::new(holds);
-    let outcome = run_threads(rt, alloc, &image, &TWO_CORES, &gate)?;
+    let gate = Holds::new(holds, cores);
+    let setup = Setup {
+        cores,
+        ..ON_THREADS
+    };
+    let outcome = run_threads(rt, alloc, &image, &setup, &gate)?;
     assert!(rt; outcome.cores.iter().all(|core| core.end.is_halt()));
-    assert!(rt; outcome.words.words.get(64) == Some(&200));
+    assert!(rt; outcome.words.words.get(64) == Some(&(100 * cores)));
     assert!(rt; gate.misnumbered.load(Ordering::SeqCst) == 0);
     assert!(rt; gate.met.load(Ordering::SeqCst) == holds.len() as u64);
     let cycles = |core: &CoreEnd| u64::from(core.cycles);
@@ -140,18 +156,32 @@ fn comes_first(rt: &impl Abort, order: &[Item], first: u32, until: u32) {
     assert!(rt; is_begun && earlier > 0);
 }
 
-#[test]
-fn two_cores_meet(rt: HostRuntime) -> Result<(), Fail> {
-    let hold = |core, cycle| Hold {
+/// A core is held in a cycle until all others have come to the same one.
+fn meeting(core: u32, cycle: u32) -> Hold {
+    Hold {
         core,
         cycle,
         until: cycle,
-    };
-    run_held(
-        &rt,
-        rt.alloc(),
-        &[hold(0, 1), hold(1, 1), hold(0, 500), hold(1, 500)],
-    )?;
+    }
+}
+
+#[test]
+fn two_cores_meet(rt: HostRuntime) -> Result<(), Fail> {
+    let holds = [
+        meeting(0, 1),
+        meeting(1, 1),
+        meeting(0, 500),
+        meeting(1, 500),
+    ];
+    run_held(&rt, rt.alloc(), 2, &holds)?;
+    Ok(())
+}
+
+/// So each of them has a thread of its own.
+#[test]
+fn eight_cores_meet(rt: HostRuntime) -> Result<(), Fail> {
+    let holds = [0, 1, 2, 3, 4, 5, 6, 7].map(|core| meeting(core, 300));
+    run_held(&rt, rt.alloc(), 8, &holds)?;
     Ok(())
 }
 
@@ -164,7 +194,7 @@ fn one_core_comes_behind_the_other(rt: HostRuntime) -> Result<(), Fail> {
             cycle,
             until: 500,
         };
-        let outcome = run_held(&rt, rt.alloc(), &[hold])?;
+        let outcome = run_held(&rt, rt.alloc(), 2, &[hold])?;
         comes_first(&rt, outcome.history.items(), 1 - core, 500);
     }
     Ok(())
