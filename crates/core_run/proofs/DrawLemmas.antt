@@ -1,13 +1,14 @@
 -- The cores that run on, and the words that draw them.
-use Rattle.std.proofs.Common.{◌≡◌, ℕ, zero, suc, ◌+◌, ◌-◌, ◌*◌, ◌<◌, ◌≤◌, inl, inr, Bool, true, false, Some, None, List, [], ◌∷◌, ◌++◌, length}
-use Rattle.std.proofs.Common.{refl, ap, sym, ◌∙◌, subst, append-nil, arith}
+use Rattle.std.proofs.Common.{◌≡◌, ℕ, zero, suc, ◌+◌, ◌-◌, ◌*◌, ◌<◌, true, false, Some, None, List, [], ◌∷◌, ◌++◌, length}
+use Rattle.std.proofs.Common.{refl, ap, sym, ◌∙◌, subst, append_assoc, append-nil, arith}
 use Rattle.std.specs.Prelude.{Option, ◌%◌, cond, not, is_some, is_none, filter, nat_lt, slice_get, slice_index}
 use Rattle.std.specs.List.{range_with_len}
-use Rattle.std.proofs.lemmas.Bool.{cases_lt, lt-ltb, le-ltb}
+use Rattle.std.proofs.lemmas.Bool.{lt-ltb, le-ltb}
 use Rattle.std.proofs.lemmas.List.{length-append}
-use Rattle.std.proofs.lemmas.List.Elements.{filter-append}
-use Rattle.std.proofs.lemmas.Option.{same_Some}
-use Rattle.std_laws.proofs.ListLaws.{slice_get_some}
+use Rattle.std.proofs.lemmas.List.Elements.{filter-append, filter_passes}
+use Rattle.std.proofs.lemmas.Option.{get_or_from_slice_get, slice_get_within}
+use Rattle.std_laws.proofs.ListLaws.{slice_get_some, slice_get_at}
+use Rattle.std_laws.proofs.RangeLaws.{range_with_len-append, filter-range_with_len_same, false_from_filter-range_with_len}
 use Rattle.rand_pcg.specs.Lcg.{Lcg, advance, next}
 use Rattle.rand_pcg.specs.Pcg.{multiplier_64, pcg32}
 use Rattle.rand_pcg.proofs.LcgLemmas.{advance_zero, advance_more}
@@ -16,64 +17,20 @@ use Rattle.right_run.specs.Seeded.{generator_of, word_of, turns_of, cores_left, 
 use Rattle.core_run.specs.declared.serial.CoreSlot.{CoreSlot}
 use Rattle.core_run.specs.Seeded.{runs_on, running, IsTotal, AreTotals}
 
--- A core without an end runs on.
-pub none-here : {X : Type 0} (end : Option X) → is_none end ≡ true → end ≡ None
-none-here None on = refl
-none-here (Some end) on = cc
-
 -- Where a core runs on, a slot is there.
 pub runs-within : {E : Type 0} (slots : List (CoreSlot E)) (core : ℕ) → runs_on (slice_get slots core) ≡ true → core < length slots
 runs-within [] core on = cc
 runs-within (s ∷ slots) zero on = omega arith
 runs-within (s ∷ slots) (suc core) on = let within = runs-within slots core on in omega (arith, within)
 
--- What a filter keeps passes its test.
-filter-got : (q : ℕ → Bool) (xs : List ℕ) (i x : ℕ) → slice_get (filter q xs) i ≡ Some x → q x ≡ true
-filter-got q [] i x got = cc
-filter-got q (a ∷ xs) i x got = by_test (q a) i refl got (λ j got. filter-got q xs j x got)
-  where
-    by_test : (is : Bool) (i : ℕ) → q a ≡ is → slice_get (cond is (a ∷ filter q xs) (filter q xs)) i ≡ Some x
-        → ((j : ℕ) → slice_get (filter q xs) j ≡ Some x → q x ≡ true) → q x ≡ true
-    by_test true zero is got more = subst (λ (n : ℕ). q n ≡ true) (same_Some a x got) is
-    by_test true (suc i) is got more = more i got
-    by_test false i is got more = more i got
-
 -- A core that is drawn runs on.
 pub drawn-runs : {E : Type 0} (slots : List (CoreSlot E)) (word core : ℕ) → drawn word (running slots) ≡ Some core
     → runs_on (slice_get slots core) ≡ true
 drawn-runs slots word core got =
-    filter-got (λ i. runs_on (slice_get slots i)) (range_with_len 0 (length slots)) (word % length (running slots)) core got
-
--- Numbers in a row, in two parts.
-range-split : (a n m k b : ℕ) → n + m ≡ k → a + n ≡ b → range_with_len a k ≡ range_with_len a n ++ range_with_len b m
-range-split a zero m k b all from =
-    let e : k ≡ m = omega arith in
-    let f : b ≡ a = omega arith in
-    rw (e, f) refl
-range-split a (suc n) m zero b all from = absurd (omega arith)
-range-split a (suc n) m (suc k) b all from = ap (λ t. a ∷ t) (range-split (a + 1) n m k b (omega arith) (omega arith))
-
--- Two tests that agree there pass the same numbers.
-range-same : (p q : ℕ → Bool) (a n : ℕ) → ((k : ℕ) → a ≤ k → k < a + n → p k ≡ q k)
-    → filter p (range_with_len a n) ≡ filter q (range_with_len a n)
-range-same p q a zero h = refl
-range-same p q a (suc n) h =
-    ap (λ b. cond b (a ∷ filter p (range_with_len (a + 1) n)) (filter p (range_with_len (a + 1) n))) (h a (omega arith) (omega arith))
-    ∙ ap (λ t. cond (q a) (a ∷ t) t) (range-same p q (a + 1) n (λ k low high. h k (omega arith) (omega arith)))
-
-cond-none : (b : Bool) (x : ℕ) (xs : List ℕ) → cond b (x ∷ xs) xs ≡ [] → (b ≡ false) × (xs ≡ [])
-cond-none true x xs h = cc
-cond-none false x xs h = (refl, h)
-
--- Where none passes, each fails.
-range-none : (p : ℕ → Bool) (a n k : ℕ) → filter p (range_with_len a n) ≡ [] → a ≤ k → k < a + n → p k ≡ false
-range-none p a zero k none low high = absurd (omega arith)
-range-none p a (suc n) k none low high =
-    let parts = cond-none (p a) a (filter p (range_with_len (a + 1) n)) none in
-    elim (cases_lt a k) as (λ _. p k ≡ false) [
-      | inl lt ↦ range-none p (a + 1) n k parts.1 (omega arith) (omega arith)
-      | inr le ↦ (let same : k ≡ a = omega arith in subst (λ (i : ℕ). p i ≡ false) (sym same) parts.0)
-    ]
+    let q = λ (i : ℕ). runs_on (slice_get slots i) in
+    let i = word % length (running slots) in
+    subst (λ (n : ℕ). q n ≡ true) (get_or_from_slice_get (running slots) i core core got)
+    (filter_passes q (range_with_len 0 (length slots)) i core (slice_get_within (running slots) i core got))
 
 module _ {E : Type 0} (slots : List (CoreSlot E)) where
   -- Those of the first so many that run on.
@@ -82,7 +39,7 @@ module _ {E : Type 0} (slots : List (CoreSlot E)) where
 
   below-more : (n : ℕ) → running_below (n + 1) ≡ running_below n ++ cond (runs_on (slice_get slots n)) (n ∷ []) []
   below-more n =
-      ap (filter (λ core. runs_on (slice_get slots core))) (range-split 0 n 1 (n + 1) n (omega arith) (omega arith))
+      ap (filter (λ core. runs_on (slice_get slots core))) (range_with_len-append 0 n 1 (n + 1) n (omega arith) (omega arith))
       ∙ filter-append (λ core. runs_on (slice_get slots core)) (range_with_len 0 n) (n ∷ [])
 
   module _ (core : ℕ) (s : CoreSlot E) (got : slice_get slots core ≡ Some s) where
@@ -104,21 +61,18 @@ module _ {E : Type 0} (slots : List (CoreSlot E)) where
     position-here on inside =
         let q = λ (i : ℕ). runs_on (slice_get slots i) in
         let rest = length slots - (core + 1) in
-        let whole = range-split 0 (core + 1) rest (length slots) (core + 1) (omega arith) (omega arith) in
+        let whole = range_with_len-append 0 (core + 1) rest (length slots) (core + 1) (omega arith) (omega arith) in
         let all : running slots ≡ (running_below core ++ core ∷ []) ++ filter q (range_with_len (core + 1) rest) =
         ap (filter q) whole ∙ (filter-append q (range_with_len 0 (core + 1)) (range_with_len (core + 1) rest)
         ∙ ap (λ t. t ++ filter q (range_with_len (core + 1) rest)) (below-more core ∙ rw (here-on on) refl)) in
-        rw all (slice_get-first (running_below core) core (filter q (range_with_len (core + 1) rest)))
-      where
-        slice_get-first : (xs : List ℕ) (x : ℕ) (ys : List ℕ) → slice_get ((xs ++ x ∷ []) ++ ys) (length xs) ≡ Some x
-        slice_get-first [] x ys = refl
-        slice_get-first (a ∷ xs) x ys = slice_get-first xs x ys
+        rw (all, append_assoc (running_below core) (core ∷ []) (filter q (range_with_len (core + 1) rest)))
+        (slice_get_at (running_below core) core (filter q (range_with_len (core + 1) rest)) (length (running_below core)) refl)
 
     -- Where none runs on, it has ended.
     pub none-runs : running slots ≡ [] → core < length slots → s.end ≡ None → ⊥
     none-runs none inside no_end =
         let q = λ (i : ℕ). runs_on (slice_get slots i) in
-        let off = sym runs-here ∙ range-none q 0 (length slots) core none (omega arith) (omega arith) in
+        let off = sym runs-here ∙ false_from_filter-range_with_len q 0 (length slots) core none (omega arith) (omega arith) in
         let on = ap (is_none {T = End}) no_end in
         cc
 
@@ -134,7 +88,7 @@ left-running {E} slots turns totals cycles h =
     let p = λ (core : ℕ). nat_lt (turns_of core turns) (slice_index totals core) in
     let q = λ (core : ℕ). runs_on (slice_get slots core) in
     ap (λ n. filter p (range_with_len 0 n)) h.count
-    ∙ range-same p q 0 (length slots) (λ core low high.
+    ∙ filter-range_with_len_same p q 0 (length slots) (λ core low high.
     (let s = slice_get_some slots core (omega arith) in
     left-at s.0.end s.0.cycles (turns_of core turns) (slice_index totals core) (cycles core s.0 s.1) (h.each core s.0 s.1)
     ∙ sym (ap runs_on s.1)))

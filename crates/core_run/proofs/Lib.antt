@@ -1,6 +1,7 @@
 pub mod LeadLaws
 pub mod CycleLaws
 pub mod LaneLemmas
+pub mod PipedLemmas
 pub mod PlainLemmas
 pub mod OwnLemmas
 pub mod StartLaws

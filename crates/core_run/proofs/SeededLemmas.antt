@@ -1,5 +1,5 @@
 -- Turns that a seed draws: what one more makes of those before it.
-use Rattle.std.proofs.Common.{◌≡◌, ◌≢◌, ℕ, zero, suc, ◌+◌, ◌*◌, ◌-◌, ◌<◌, ◌≤◌, ◌⊎◌, inl, inr, Bool, false, Some, None, List, [], ◌∷◌}
+use Rattle.std.proofs.Common.{◌≡◌, ◌≢◌, ℕ, ◌+◌, ◌*◌, ◌-◌, ◌<◌, ◌≤◌, inl, inr, Bool, false, Some, None, List, [], ◌∷◌}
 use Rattle.std.proofs.Common.{◌++◌, length, take, refl, ap, sym, ◌∙◌, subst, arith}
 use Rattle.std.specs.Prelude.{Option, is_some, ◌==◌, flat_map, slice_get, slice_index, sum_by, option_map}
 use Rattle.std.proofs.Math.Seq.{take-append_seam}
@@ -9,6 +9,7 @@ use Rattle.std.proofs.lemmas.List.{take-append-le, length-append, length-map, le
 use Rattle.std.proofs.lemmas.List.Sums.{sum_by_push, sum_by-set}
 use Rattle.std.proofs.lemmas.Option.{same_Some, slice_get_within, slice_get-map, get_or_from_slice_get}
 use Rattle.std_laws.proofs.ListLaws.{slice_get_some, AtEach-set, slice_get-append_left, slice_get_at, slice_get-set_same, slice_get-set_other}
+use Rattle.std_laws.proofs.ListLaws.{slice_get-push_cases}
 use Rattle.std_laws.proofs.OptionLaws.{option_map_parts}
 use Rattle.access_log.specs.declared.Entry.{Entry}
 use Rattle.access_log.specs.Stamps.{Stamp}
@@ -31,19 +32,6 @@ use Rattle.core_run.proofs.SerialLemmas.{slot-kept}
 use Rattle.core_run.proofs.ServedLemmas.{Adds, served-turn}
 use Rattle.core_run.proofs.DrawLemmas.{none-runs, left-running}
 use Rattle.core_run.proofs.RunLemmas.{IsEndedSlot, slot-ended, AreEnds}
-
--- What stands in a list with one more.
-push-cases : {X : Type 0} (xs : List X) (y : X) (k : ℕ) (x : X) → slice_get (xs ++ y ∷ []) k ≡ Some x
-    → ((k < length xs) × (slice_get xs k ≡ Some x)) ⊎ ((k ≡ length xs) × (x ≡ y))
-push-cases [] y zero x got = inr (refl, sym (same_Some y x got))
-push-cases [] y (suc k) x got = cc
-push-cases (a ∷ xs) y zero x got = inl (omega arith, got)
-push-cases (a ∷ xs) y (suc k) x got =
-    elim (push-cases xs y k x got) as (λ _. ((suc k < length (a ∷ xs)) × (slice_get (a ∷ xs) (suc k) ≡ Some x))
-    ⊎ ((suc k ≡ length (a ∷ xs)) × (x ≡ y))) [
-      | inl h ↦ (let lt = h.0 in inl (omega (arith, lt), h.1))
-      | inr h ↦ (let is = h.0 in inr (omega (arith, is), h.1))
-    ]
 
 -- The turns of the core that has one more, and of another one.
 turns-own : (core : ℕ) (turns : List ℕ) → turns_of core (turns ++ core ∷ []) ≡ turns_of core turns + 1
@@ -93,7 +81,7 @@ drawn-push : (seed : ℕ) (cycles turns : List ℕ) (core : ℕ) → AreDrawn se
     → drawn (word_of seed (2 * length turns)) (cores_left cycles turns) ≡ Some core → AreDrawn seed cycles (turns ++ core ∷ [])
 drawn-push seed cycles turns core each last turn any got =
     let D : ℕ → List ℕ → ℕ → Type 0 = λ n t c. drawn (word_of seed (2 * n)) (cores_left cycles t) ≡ Some c in
-    elim (push-cases turns core turn any got) as (λ _. D turn (take turn (turns ++ core ∷ [])) any) [
+    elim (slice_get-push_cases turns core turn any got) as (λ _. D turn (take turn (turns ++ core ∷ [])) any) [
       | inl h ↦ (let lt = h.0 in
           subst (λ (t : List ℕ). D turn t any) (sym (take-append-le turn turns (core ∷ []) (omega (arith, lt)))) (each turn any h.1))
       | inr h ↦ subst (λ (n : ℕ). D n (take n (turns ++ core ∷ [])) any) (sym h.0)
@@ -207,7 +195,7 @@ module _ {E M : Type 0} (view : E → EngineView) (times : ServiceHistory → E 
         cycles-now in
         let made = subst (λ (b : Bool). AreOfCycle core (word_of seed (2 * length turns + 1)) b played.calls) last
         (subst (λ (n : ℕ). AreOfCycle core n (is_some played.is.end) played.calls) is_choice played.made) in
-        elim (push-cases turns core turn any got) as (λ _. A turn (take turn (turns ++ core ∷ [])) any those) [
+        elim (slice_get-push_cases turns core turn any got) as (λ _. A turn (take turn (turns ++ core ∷ [])) any those) [
           | inl k ↦
               (let lt = k.0 in
               let was = sym (slice_get-append_left had.calls (played.calls ∷ []) turn (omega (arith, lt, count))) ∙ called in

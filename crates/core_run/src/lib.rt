@@ -15,6 +15,7 @@
 #![tactic(auto)]
 
 mod lane;
+mod piped;
 mod plain;
 mod run;
 mod seeded;
@@ -23,6 +24,7 @@ mod side;
 mod timed;
 
 pub use lane::{Lane, cycle, finish, run_cycle};
+pub use piped::pipe_slots;
 pub use plain::Plain;
 pub use run::{plain_slots, run_serial};
 pub use seeded::run_seeded;

@@ -19,4 +19,6 @@ mod seeded;
 #[cfg(test)]
 mod threads;
 #[cfg(test)]
+mod timetables;
+#[cfg(test)]
 mod turns;

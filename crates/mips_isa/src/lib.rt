@@ -8,6 +8,7 @@
 //!
 //! - `proofs/FieldLaws`: a word spells one instruction at most.
 //! - `proofs/NextLaws`: what a core asks for may be asked of memory.
+//! - `proofs/StepsLaws`: code has an instruction at each of its addresses, and no step writes register 0.
 #![tactic(auto)]
 
 pub mod effects;

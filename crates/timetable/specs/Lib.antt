@@ -1,3 +1,9 @@
 pub mod Rows
 pub mod Outcome
 pub mod Names
+pub mod Recurrence
+pub mod Tables
+pub mod Trace
+pub mod AtOnce
+pub mod Ends
+pub mod Waits

@@ -1,16 +1,27 @@
-//! What a run leaves: where each core ended, after how many cycles, and what was done.
+//! What a run leaves: where each core ended, after how many cycles, what was done, and the timetable of
+//! a pipelined core.
+//!
+//! Laws that crates above cite:
+//!
+//! - `proofs/TraceLaws`: the instructions of a core that goes on by one more, and that finds more.
+//! - `proofs/FirstClockLaws`: on a memory that answers at once the clocks are the first that can be.
 #![tactic(auto)]
 
 ghost use Rattle.std.specs.Prelude.{◌≡◌, ◌≤◌};
 
+pub mod laws;
+mod recurrence;
 mod rows;
+mod waiting;
 
 use access_log::History;
 use image_file::Words;
 use mips_isa::{CoreState, Stop};
-pub use rows::{Rows, TimeRow};
+pub use recurrence::next_row;
+pub use rows::{Rows, TimeRow, Waits};
 pub use std::alloc::AllocError as NoMemory;
 use std::marker::Model;
+pub use waiting::waits;
 
 /// Why a core went no further.
 #[derive(Clone, Copy, Debug, PartialEq, Eq)]

@@ -1,5 +1,6 @@
 //! The rows of a pipelined core's timetable.
-ghost use Rattle.std.specs.Prelude.{◌≡◌, ◌+◌, ◌<◌, ◌++◌, ◌∷◌, [], length, slice_get, IfOk};
+ghost use Rattle.std.specs.Prelude.{◌≡◌, ◌+◌, ◌<◌, ◌^◌, ◌++◌, ◌∷◌, [], length, slice_get, IfOk};
+ghost use Rattle.timetable.specs.Recurrence.{last_where};
 
 use crate::NoMemory;
 use std::alloc::Global;
@@ -22,6 +23,15 @@ pub struct TimeRow {
     pub m: u32,
     /// In which it left the last stage; none where it stopped.
     pub w: Option<u32>,
+}
+
+/// Cycles that instructions waited: for their words, for their operands in ID, and for the answers
+/// to their accesses.
+#[derive(Clone, Copy, Debug, PartialEq, Eq)]
+pub struct Waits {
+    pub fetch: u64,
+    pub operand: u64,
+    pub access: u64,
 }
 
 /// A list of rows, an instruction each, with room for so many more. It only grows.
@@ -63,6 +73,15 @@ impl Rows {
         Ok(Rows { rows, spare: room })
     }
 
+    /// These rows, and no room for more. It takes no memory.
+    pub fn from_vec(rows: Vec<TimeRow>) -> Rows
+        requires few { length rows.items < 2 ^ 32 }
+        ensures rows { result.rows ≡ rows.items }
+        ensures spare { result.spare ≡ 0 }
+    {
+        Rows { rows, spare: 0 }
+    }
+
     /// Appends a row. It takes no memory.
     pub fn push(&mut self, row: TimeRow)
         requires room { 0 < self.old.spare }
@@ -85,5 +104,20 @@ impl Rows {
         ensures row { result ≡ slice_get self.now.rows n }
     {
         self.rows.get(n as usize).copied()
+    }
+
+    /// The last row, if there is one.
+    pub fn last(&self) -> Option<TimeRow>
+        ensures row { result ≡ last_where self.now.rows }
+    {
+        self.rows.last().copied()
+    }
+
+    /// All rows, in order.
+    pub fn as_slice(&self) -> &[TimeRow]
+        ensures rows { result.now ≡ self.now.rows }
+        ensures few { length result.now < 2 ^ 32 }
+    {
+        self.rows.as_slice()
     }
 }

@@ -1,11 +1,12 @@
 use Rattle.std.proofs.Common.{arith, refl, subst, sym, ap, ◌∙◌, ◌≡◌, ℕ}
 use Rattle.std.specs.Prelude.{is_some}
 use Rattle.std.proofs.lemmas.Option.{slice_get_read}
+use Rattle.std_laws.proofs.OptionLaws.{none_from_is_none}
 use Rattle.mem_port.specs.Side.{LeavesOthers}
 use Rattle.core_run.specs.Running.{AreOfCycle}
 use Rattle.core_run.specs.Serial.{Receives}
 use Rattle.core_run.specs.Seeded.{runs_on}
-use Rattle.core_run.proofs.DrawLemmas.{none-here, runs-within}
+use Rattle.core_run.proofs.DrawLemmas.{runs-within}
 use Rattle.core_run.proofs.seeded.play_at.Goals as goal
 
 pub play-requires-clause-serves : goal.play-requires-clause-serves
@@ -30,7 +31,7 @@ play-requires-clause-no_end g c =
     let s = c.index_mut-slot.result.now in
     let inside = runs-within items c.args.core c.requires.runs_on in
     let got = slice_get_read items _ c.args.core s refl inside c.index_mut-slot.ensures.value in
-    none-here s.end (sym (ap runs_on got) ∙ c.requires.runs_on)
+    none_from_is_none s.end (sym (ap runs_on got) ∙ c.requires.runs_on)
 
 pub returns-clause-played : goal.returns-clause-played
 returns-clause-played g c =
@@ -47,7 +48,7 @@ returns-clause-played g c =
       was = s;
       is = c.play.new.slot;
       at = got;
-      no_end = none-here s.end (sym (ap runs_on got) ∙ c.requires.runs_on);
+      no_end = none_from_is_none s.end (sym (ap runs_on got) ∙ c.requires.runs_on);
       slots = refl;
       slot = record { lane_is = f.slot.lane_is ∙ is; holds = f.slot.holds };
       cycles = f.cycles;

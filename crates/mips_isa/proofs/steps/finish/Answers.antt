@@ -1,4 +1,4 @@
-use Rattle.mips_isa.proofs.StepsLemmas.{answered-zero}
+use Rattle.mips_isa.proofs.StepsLaws.{answered-zero}
 use Rattle.mips_isa.proofs.steps.finish.Goals as goal
 
 pub returns-in-Some-kind-clause-zero : goal.returns-in-Some-kind-clause-zero

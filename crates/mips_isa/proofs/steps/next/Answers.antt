@@ -1,4 +1,4 @@
-use Rattle.mips_isa.proofs.StepsLemmas.{executed-zero}
+use Rattle.mips_isa.proofs.StepsLaws.{executed-zero}
 use Rattle.mips_isa.proofs.steps.next.Goals as goal
 
 pub returns-in-None-clause-zero : goal.returns-in-None-clause-zero

@@ -1,0 +1,14 @@
+pub mod Moves
+pub mod Steps
+pub mod Wants
+pub mod Enabled
+pub mod Clock
+pub mod Table
+pub mod Chain
+pub mod Passage
+pub mod OnTime
+pub mod Punctual
+pub mod PipeView
+pub mod PipeRun
+pub mod PipeHistory
+pub mod PipeUses
