@@ -3,7 +3,7 @@ use Rattle.std.proofs.Common.{◌≡◌, ℕ, ◌+◌, ◌*◌, List, [], ◌∷
 use Rattle.std.specs.Prelude.{Some, None, map, slice_get}
 use Rattle.std.specs.Option.{option_and_then}
 use Rattle.std.specs.List.{AllByRecursion}
-use Rattle.std.proofs.lemmas.List.{length-map}
+use Rattle.std.proofs.lemmas.List.{length-map, nil_from_length}
 use Rattle.std.proofs.lemmas.Simd.{map-map}
 use Rattle.std_laws.proofs.OptionLaws.{option_and_then_parts}
 use Rattle.std_laws.proofs.ListLaws.{AllByRecursion-append, AllByRecursion-parts}
@@ -23,7 +23,7 @@ use Rattle.timetable.specs.Outcome.{OutcomeValue, final_of}
 use Rattle.right_run.specs.Right.{EndsOn}
 use Rattle.right_run.proofs.PlainLaws.{IsRightOnPlain, right-on_plain, right-from_plain}
 use Rattle.report_rows.specs.declared.MemoryWord.{MemoryWord}
-use Rattle.report_rows.specs.Bounds.{IsItem, IsEnd}
+use Rattle.report_rows.specs.Bounds.{IsItem, most_rows, IsEnd}
 use Rattle.report_rows.specs.Ends.{EndValue, end_value}
 use Rattle.report_text.specs.Counts.{counts_of}
 use Rattle.report_text.specs.Report.{ReportValue, words_past, report_of}
@@ -90,10 +90,11 @@ no_bus cores bytes [] are = refl
 no_bus cores bytes (Done entry ∷ items) are = no_bus cores bytes items are.1
 no_bus cores bytes (Bus transaction ∷ items) are = absurd are.0
 
-no_rows_back : (budget : ℕ) (ends : List EndValue) → AllByRecursion (IsEnd budget) ends → map end_value (map core_end ends) ≡ ends
+no_rows_back : (budget : ℕ) (ends : List EndValue) → AllByRecursion (IsEnd budget 0) ends → map end_value (map core_end ends) ≡ ends
 no_rows_back budget [] are = refl
 no_rows_back budget (kept ∷ ends) are =
-    ap (λ rows. with_rows kept rows ∷ map end_value (map core_end ends)) (sym are.0.no_rows)
+    ap (λ rows. with_rows kept rows ∷ map end_value (map core_end ends))
+    (sym (nil_from_length kept.rows (omega (arith, are.0.few_rows))))
     ∙ ap (λ (es : List EndValue). kept ∷ es) (no_rows_back budget ends are.1)
   where
     with_rows : EndValue → List TimeRow → EndValue
@@ -121,7 +122,9 @@ same_report : (report : ReportValue) (machine : FlatMachine) → IsReport report
     → report ≡ report_of report.setup report.image (outcome_of report machine.memory)
 unfolding report_of
 same_report report machine is all =
-    let cores : report.cores ≡ map end_value (map core_end report.cores) = sym (no_rows_back report.setup.budget report.cores is.ends) in
+    let ends : AllByRecursion (IsEnd report.setup.budget 0) report.cores =
+    subst (λ machine. AllByRecursion (IsEnd report.setup.budget (most_rows machine)) report.cores) is.header.machine is.ends in
+    let cores : report.cores ≡ map end_value (map core_end report.cores) = sym (no_rows_back report.setup.budget report.cores ends) in
     ap (λ (ws : List MemoryWord). with_outcome report.cores ws report.counts) all.words
     ∙ ap (λ (ns : List ℕ). with_outcome report.cores (words_past (length report.image.code) machine.memory) ns) all.counts
     ∙ ap (λ (cs : List EndValue). with_outcome cs (words_past (length report.image.code) machine.memory) (counts_of cs report.items)) cores
@@ -136,7 +139,7 @@ pub no_difference_is_right : (report : ReportValue) → IsReport report → (mac
 no_difference_is_right report is machine made none =
     let all = all_agree report machine is none in
     let fits = machine_is report machine made in
-    let right = cores_right (cores_line report) report.setup.budget machine (entries report.items) 0 report.cores machine.cores
+    let right = cores_right (cores_line report) report.setup.budget (most_rows report.setup.machine) machine (entries report.items) 0 report.cores machine.cores
     (is.cores ∙ sym fits.cores_are) is.ends fits.registers all.cores in
     let ends = ends_are report machine right.finals fits.code_is (memory_is report machine is fits.words_are) right.right in
     record {

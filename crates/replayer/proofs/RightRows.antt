@@ -42,29 +42,30 @@ pub record AreRight (budget : ℕ) (machine : FlatMachine) (order : List Entry) 
   pub caught : AreCaughtUp machine.code (memory_bytes machine) (map retired_of ends) cores finals
   pub right : EndRightly budget machine.code (memory_bytes machine) order index ends finals
 
-core_right : (line budget : ℕ) (machine : FlatMachine) (order : List Entry) (index : ℕ) (kept : EndValue) (core : Core) → IsEnd budget kept
+core_right : (line budget most : ℕ) (machine : FlatMachine) (order : List Entry) (index : ℕ) (kept : EndValue) (core : Core)
+    → IsEnd budget most kept
     → HasRegisters core
     → Agree (core_judged line budget machine kept (length (own order index)) (core_to machine kept.retired core))
     → IsRightAt budget machine.code (memory_bytes machine) order index kept (core_to machine kept.retired core)
-core_right line budget machine order index kept core is has all =
+core_right line budget most machine order index kept core is has all =
     let there : Core = core_to machine kept.retired core in
     is_right_end line budget kept (length (own order index)) (next_of machine.code (memory_bytes machine) there.state) there is.cycles
     is.registers
     (farthest-registers machine.code (memory_bytes machine) (kept.retired - core.executed) core has) all
 
-pub cores_right : (line budget : ℕ) (machine : FlatMachine) (order : List Entry) (index : ℕ) (ends : List EndValue) (cores : List Core)
+pub cores_right : (line budget most : ℕ) (machine : FlatMachine) (order : List Entry) (index : ℕ) (ends : List EndValue) (cores : List Core)
     → length ends ≡ length cores
-    → AllByRecursion (IsEnd budget) ends → AllByRecursion HasRegisters cores
+    → AllByRecursion (IsEnd budget most) ends → AllByRecursion HasRegisters cores
     → Agree (cores_judged line budget machine order index ends cores) → AreRight budget machine order index ends cores
-cores_right line budget machine order index [] [] same are have all = record { finals = []; caught = tt; right = tt }
-cores_right line budget machine order index [] (core ∷ cores) same are have all = absurd (omega (arith, same))
-cores_right line budget machine order index (kept ∷ ends) [] same are have all = absurd (omega (arith, same))
-cores_right line budget machine order index (kept ∷ ends) (core ∷ cores) same are have all =
+cores_right line budget most machine order index [] [] same are have all = record { finals = []; caught = tt; right = tt }
+cores_right line budget most machine order index [] (core ∷ cores) same are have all = absurd (omega (arith, same))
+cores_right line budget most machine order index (kept ∷ ends) [] same are have all = absurd (omega (arith, same))
+cores_right line budget most machine order index (kept ∷ ends) (core ∷ cores) same are have all =
     let there : Core = core_to machine kept.retired core in
     let parts = AllByRecursion-parts Agrees (core_judged line budget machine kept (length (own order index)) there)
     (cores_judged (line + 5) budget machine order (index + 1) ends cores) all in
-    let first = core_right line budget machine order index kept core are.0 have.0 parts.0 in
-    let others = cores_right (line + 5) budget machine order (index + 1) ends cores (omega (arith, same)) are.1 have.1 parts.1 in
+    let first = core_right line budget most machine order index kept core are.0 have.0 parts.0 in
+    let others = cores_right (line + 5) budget most machine order (index + 1) ends cores (omega (arith, same)) are.1 have.1 parts.1 in
     record {
       finals = there ∷ others.finals;
       caught = (caught_up-farthest machine.code (memory_bytes machine) kept.retired core (sym first.retired), others.caught);

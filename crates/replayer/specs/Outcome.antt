@@ -6,7 +6,7 @@ use Rattle.access_log.specs.Replay.{FlatMachine, started}
 use Rattle.report_rows.specs.Rows.{header_rows, memory_row}
 use Rattle.report_text.specs.Counts.{counts_of}
 use Rattle.report_text.specs.Report.{ReportValue, words_past}
-use Rattle.report_text.specs.Text.{image_rows, run_rows, rows_of_cores}
+use Rattle.report_text.specs.Text.{image_rows, run_rows, rows_of_cores, rows_of_timetables}
 use Rattle.replayer.specs.Judgments.{Judgment, words_judged, counts_judged}
 use Rattle.replayer.specs.Cores.{cores_judged}
 
@@ -22,7 +22,8 @@ abbrev pub words_line : ReportValue → ℕ
 words_line report = length (run_rows report ++ rows_of_cores 0 report.cores) + 1
 
 abbrev pub counts_line : ReportValue → ℕ
-counts_line report = length (run_rows report ++ rows_of_cores 0 report.cores ++ map memory_row report.words) + 1
+counts_line report =
+    length (run_rows report ++ rows_of_cores 0 report.cores ++ map memory_row report.words ++ rows_of_timetables 0 report.cores) + 1
 
 -- the sequential machine at the start of what a report says was loaded
 abbrev pub machine_of : ReportValue → FlatMachine

@@ -1,6 +1,6 @@
 -- A right report keeps the bounds of those that are read.
 use Rattle.std.proofs.Common.{◌≡◌, ℕ, zero, suc, ◌+◌, ◌-◌, ◌*◌, ◌==◌, ◌<◌, ◌≤◌, Bool, true, false, List, [], ◌∷◌, length, get_or, drop, map}
-use Rattle.std.proofs.Common.{refl, sym, ◌∙◌, arith}
+use Rattle.std.proofs.Common.{refl, sym, ap, subst, ◌∙◌, arith}
 use Rattle.std.specs.Prelude.{Some, slice_get, if◌then◌else◌}
 use Rattle.std.specs.List.{All, AllByRecursion}
 use Rattle.std.proofs.lemmas.Option.{same_Some, slice_get-get_or}
@@ -25,12 +25,13 @@ use Rattle.access_log.proofs.SplitLaws.{split}
 use Rattle.timetable.specs.declared.End.{End}
 use Rattle.timetable.specs.declared.End.TheVariants.{Stopped, Spent}
 use Rattle.timetable.specs.declared.CoreEnd.{CoreEnd}
+use Rattle.timetable.specs.declared.rows.TimeRow.{TimeRow}
 use Rattle.timetable.specs.Outcome.{OutcomeValue, IsState, final_of}
 use Rattle.right_run.specs.Cycles.{EndsRightly}
 use Rattle.right_run.specs.Right.{IsRight}
 use Rattle.right_run.proofs.PlainLaws.{IsRightOnPlain, right-on_plain}
 use Rattle.report_rows.specs.declared.MemoryWord.{MemoryWord}
-use Rattle.report_rows.specs.Bounds.{IsWord, IsItem, IsEnd, AreMemoryWords, IsCount}
+use Rattle.report_rows.specs.Bounds.{IsWord, IsItem, most_rows, AreTimes, IsEnd, AreMemoryWords, IsCount}
 use Rattle.report_rows.specs.Ends.{end_value}
 use Rattle.report_text.specs.Counts.{counts_of}
 use Rattle.report_text.specs.Form.{IsReport}
@@ -66,7 +67,7 @@ record IsWithinBudget (budget : ℕ) (ended : CoreEnd) : Type 0 where
   pub no_rows : ended.rows.rows ≡ []
 
 ends_form : (budget : ℕ) (cores : List CoreEnd) → budget ≤ 100000 → AllByRecursion (IsWithinBudget budget) cores
-    → AllByRecursion (λ (ended : CoreEnd). IsState ended.state) cores → AllByRecursion (IsEnd budget) (map end_value cores)
+    → AllByRecursion (λ (ended : CoreEnd). IsState ended.state) cores → AllByRecursion (IsEnd budget 0) (map end_value cores)
 ends_form budget [] few right states = tt
 ends_form budget (ended ∷ cores) few right states =
     let time : ended.retired ≤ 100002 = omega (arith, few, right.0.retired) in
@@ -78,7 +79,8 @@ ends_form budget (ended ∷ cores) few right states =
         dpc = states.0.dpc;
         registers = states.0.registers;
         words = words;
-        no_rows = right.0.no_rows;
+        few_rows = omega (arith, ap (λ (rows : List TimeRow). length rows) right.0.no_rows);
+        times = subst (AllByRecursion AreTimes) (sym right.0.no_rows) tt;
       },
       ends_form budget cores few right.1 states.1,
     )
@@ -164,12 +166,12 @@ module _ (setup : Setup) (image : ImageValue) (outcome : OutcomeValue) (right : 
       (rw (bytes-start_memory image good) at asked) (recursion_from_All HasWords outcome.items words)
 
   ends_are : setup.budget ≤ 100000 → All (λ (ended : CoreEnd). IsState ended.state) outcome.cores
-      → AllByRecursion (IsEnd setup.budget) (map end_value outcome.cores)
+      → AllByRecursion (IsEnd setup.budget (most_rows setup.machine)) (map end_value outcome.cores)
   ends_are few states =
       let each : All (IsWithinBudget setup.budget) outcome.cores =
       λ core d below. end_within core (get_or outcome.cores core d) (slice_get-get_or outcome.cores core d below) in
-      ends_form setup.budget outcome.cores few (recursion_from_All (IsWithinBudget setup.budget) outcome.cores each)
-      (recursion_from_All (λ (ended : CoreEnd). IsState ended.state) outcome.cores states)
+      rw right.plain (ends_form setup.budget outcome.cores few (recursion_from_All (IsWithinBudget setup.budget) outcome.cores each)
+      (recursion_from_All (λ (ended : CoreEnd). IsState ended.state) outcome.cores states))
 
   words_are : IsGood image → All (λ (word : MemoryWord). IsWord word.value) (words_past (length image.code) outcome.words)
       → AreMemoryWords (memory_bytes image) (4 * length image.code) (words_past (length image.code) outcome.words)

@@ -5,15 +5,15 @@ ghost use Rattle.kmp_base.specs.Rows.{text_of};
 ghost use Rattle.kmp_base.specs.Streams.{Writes};
 ghost use Rattle.image_file.specs.Value.{image_bytes};
 ghost use Rattle.report_rows.specs.Ends.{end_value};
-ghost use Rattle.report_rows.specs.Rows.{bytes_row_at, item_row, memory_row};
-ghost use Rattle.report_text.specs.Text.{image_rows, rows_of_cores, count_rows, run_rows, outcome_rows, report_text};
+ghost use Rattle.report_rows.specs.Rows.{bytes_row_at, item_row, memory_row, timetable_rows};
+ghost use Rattle.report_text.specs.Text.{image_rows, rows_of_cores, rows_of_timetables, count_rows, run_rows, outcome_rows, report_text};
 
 use crate::spell;
 use access_log::Item;
 use image_file::{Image, Spelling, image_size};
 use kmp_base::{Row, Sink, WriteFault, put};
 use report_text::{Counts, MemoryWord, Report};
-use timetable::CoreEnd;
+use timetable::{CoreEnd, Rows};
 
 /// Puts rows in order, one in a put. It ends at the first write that fails.
 pub fn put_rows<K: Sink>(rows: &[Row], sink: &mut K) -> Result<(), WriteFault>
@@ -71,6 +71,27 @@ fn print_memory<K: Sink>(words: &[MemoryWord], sink: &mut K) -> Result<(), Write
     Ok(())
 }
 
+fn print_timetable<K: Sink>(core: u64, rows: &Rows, sink: &mut K) -> Result<(), WriteFault>
+    ensures { Writes K.held K.faults sink.old sink.new result (text_of (timetable_rows core rows.now.rows)) }
+{
+    for n in 0..rows.len() {
+        put(
+            sink,
+            spell::timed(core, n, &rows.as_slice()[n as usize]).bytes(),
+        )?;
+    }
+    Ok(())
+}
+
+fn print_timetables<K: Sink>(cores: &[CoreEnd], sink: &mut K) -> Result<(), WriteFault>
+    ensures { Writes K.held K.faults sink.old sink.new result (text_of (rows_of_timetables 0 (map end_value cores.now))) }
+{
+    for i in 0..cores.len() {
+        print_timetable(i as u64, &cores[i].rows, sink)?;
+    }
+    Ok(())
+}
+
 fn print_counts<K: Sink>(counts: &Counts, sink: &mut K) -> Result<(), WriteFault>
     ensures { Writes K.held K.faults sink.old sink.new result (text_of (count_rows counts.now.values)) }
 {
@@ -94,6 +115,7 @@ fn print_outcome<K: Sink>(report: &Report, sink: &mut K) -> Result<(), WriteFaul
 {
     print_cores(&report.cores, sink)?;
     print_memory(&report.words, sink)?;
+    print_timetables(&report.cores, sink)?;
     print_counts(&report.counts, sink)
 }
 

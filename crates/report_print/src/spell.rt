@@ -4,17 +4,17 @@ ghost use Rattle.std.specs.Int.{w32, to_le_bytes};
 ghost use Rattle.hex.specs.Hex.{encode_lower};
 ghost use Rattle.kmp_base.specs.Text.{hex8, hex4};
 ghost use Rattle.kmp_base.specs.Rows.{row_text};
-ghost use Rattle.row_reader.specs.Numbers.{word_or_dash};
+ghost use Rattle.row_reader.specs.Numbers.{word_or_dash, number_or_dash};
 ghost use Rattle.report_rows.specs.Ends.{end_value};
 ghost use Rattle.report_rows.specs.Names.{bit_name};
-ghost use Rattle.report_rows.specs.Rows.{number_or_dash, text_row, number_row, count_row_at, bytes_row, entry_row, transaction_row, item_row, core_row, registers_row, memory_row, header_rows, core_rows, access_count_rows, bus_count_rows, wait_count_rows};
+ghost use Rattle.report_rows.specs.Rows.{text_row, number_row, count_row_at, bytes_row, entry_row, transaction_row, item_row, core_row, registers_row, memory_row, timed_row, header_rows, core_rows, access_count_rows, bus_count_rows, wait_count_rows};
 
 use access_log::{Entry, Item, Transaction};
 use byteorder::{ByteOrder, LittleEndian};
 use image_file::Spelling;
 use kmp_base::{Row, Setup};
 use report_rows::{Counts, MemoryWord, count_name};
-use timetable::CoreEnd;
+use timetable::{CoreEnd, TimeRow};
 
 /// The digit of a bit.
 fn bit_name(bit: bool) -> &'static str
@@ -35,7 +35,7 @@ fn add_word(row: &mut Row, word: &str)
 }
 
 /// Appends a space and a number.
-#[tactic(auto, using(kmp_base::proofs::TextLaws::decimal_fits))]
+#[tactic(auto, using(std_laws::proofs::NumberLaws::length_decimal_64))]
 fn add_number(row: &mut Row, n: u64)
     requires { length row.old ≤ 107 }
     ensures bytes { row.new ≡ row.old ++ codes " " ++ decimal n }
@@ -45,14 +45,25 @@ fn add_number(row: &mut Row, n: u64)
     row.decimal(n);
 }
 
-/// Appends a space, and a number or `-`.
-fn add_number_or_dash(row: &mut Row, n: Option<u32>)
-    requires { length row.old ≤ 107 }
+/// Appends a space and a number, of ten digits at most.
+#[tactic(auto, using(crate::proofs::DigitLemmas::short_fits))]
+fn add_short(row: &mut Row, n: u32)
+    requires { length row.old ≤ 116 }
+    ensures bytes { row.new ≡ row.old ++ codes " " ++ decimal n }
+    ensures len { length row.new ≤ length row.old + 11 }
+{
+    row.text(" ");
+    row.decimal(u64::from(n));
+}
+
+/// Appends a space, and such a number or `-`.
+fn add_short_or_dash(row: &mut Row, n: Option<u32>)
+    requires { length row.old ≤ 116 }
     ensures bytes { row.new ≡ row.old ++ codes " " ++ number_or_dash n }
-    ensures len { length row.new ≤ length row.old + 21 }
+    ensures len { length row.new ≤ length row.old + 11 }
 {
     match n {
-        Some(number) => add_number(row, u64::from(number)),
+        Some(number) => add_short(row, number),
         None => add_word(row, "-"),
     }
 }
@@ -193,8 +204,8 @@ fn transaction(bus: &Transaction) -> Row
     add_number(&mut row, u64::from(bus.line));
     add_word(&mut row, bit_name(bus.im));
     add_hex4(&mut row, bus.ch);
-    add_number_or_dash(&mut row, bus.di);
-    add_number_or_dash(&mut row, bus.victim);
+    add_short_or_dash(&mut row, bus.di);
+    add_short_or_dash(&mut row, bus.victim);
     add_word(&mut row, bus.letter.name());
     row.text("\n");
     row
@@ -250,6 +261,25 @@ pub(crate) fn memory(word: &MemoryWord) -> Row
     row.text("W");
     add_hex8(&mut row, word.addr);
     add_hex8(&mut row, word.value);
+    row.text("\n");
+    row
+}
+
+/// The row of instruction `n` in the timetable of a core.
+pub(crate) fn timed(core: u64, n: u32, times: &TimeRow) -> Row
+    ensures row { result ≡ row_text (timed_row core n times.now) }
+{
+    let mut row = Row::new();
+    row.text("T");
+    add_number(&mut row, core);
+    add_short(&mut row, n);
+    add_short(&mut row, times.i);
+    add_short(&mut row, times.f);
+    add_short(&mut row, times.d);
+    add_short(&mut row, times.e);
+    add_short_or_dash(&mut row, times.a);
+    add_short(&mut row, times.m);
+    add_short_or_dash(&mut row, times.w);
     row.text("\n");
     row
 }

@@ -4,22 +4,23 @@ use Rattle.std.proofs.Common.{arith, append_assoc, length-append, length-drop, d
 use Rattle.std.specs.Prelude.{replicate}
 use Rattle.std.specs.List.{AllByRecursion, range_with_len}
 use Rattle.std.proofs.Math.Seq.{take-add}
-use Rattle.std.proofs.lemmas.List.{take_all, take_at, drop_at, length-take-le}
+use Rattle.std.proofs.lemmas.List.{take_all, take_at, drop_at, length-take-le, nil_from_length}
 use Rattle.std.proofs.lemmas.List.FromFn.{length-range_with_len}
 use Rattle.timetable.specs.declared.End.TheVariants as ends
-use Rattle.std_laws.proofs.ListLaws.{AllByRecursion-append}
+use Rattle.timetable.specs.declared.rows.TimeRow.{TimeRow}
+use Rattle.std_laws.proofs.ListLaws.{AllByRecursion-append, AllByRecursion-take_drop, AllByRecursion-replicate}
 use Rattle.row_reader.specs.Rows.{Rows}
 use Rattle.row_reader.specs.Starts.{IsPart, EachFits, each_spell}
 use Rattle.row_reader.proofs.PartLaws.{row_part}
 use Rattle.row_reader.proofs.ManyLaws.{part_as, each_part, then_known, last_known}
 use Rattle.report_row_reader.specs.declared.read.EndRow.{EndRow}
 use Rattle.report_rows.specs.Ends.{EndValue}
-use Rattle.report_rows.specs.Bounds.{IsWord, IsEnd}
+use Rattle.report_rows.specs.Bounds.{IsWord, AreTimes, IsEnd}
 use Rattle.report_rows.specs.Rows.{core_rows}
 use Rattle.report_row_reader.proofs.RowLaws.{IsEndRow, end_law, registers_law}
 use Rattle.report_text.specs.Text.{rows_of_cores}
 use Rattle.report_read.specs.Reading.{end_of_rows, end_at, ends_at}
-use Rattle.report_read.proofs.ListLaws.{all_cut, all_zeros, all_each, each_all}
+use Rattle.report_read.proofs.ListLaws.{all_each, each_all}
 
 -- ---- registers, eight by eight
 
@@ -34,7 +35,7 @@ abbrev joined : List ℕ → List ℕ → List ℕ → List ℕ → List ℕ
 joined a b c d = a ++ b ++ c ++ d
 
 zero_regs : AreEight (replicate 8 0)
-zero_regs = (refl, all_zeros IsWord 8 (omega arith))
+zero_regs = (refl, AllByRecursion-replicate IsWord 8 0 (omega arith))
 
 eight_more : (n : ℕ) (regs : List ℕ) → take n regs ++ eight_at n regs ≡ take (n + 8) regs
 eight_more n regs = sym (take-add n 8 regs)
@@ -126,7 +127,7 @@ end_fields budget core small =
     last_known (end_of_rows row a b c d) _ (λ z k. end_is z row a b c d k.1.1.1.1.1 k.1.1.1.1.0 k.1.1.1.0 k.1.1.0 k.1.0 k.0)
     (j.d_is, (j.c_is, (j.b_is, (j.a_is, (refl, (refl, j.long)))))))))))
 
-end_to : (budget : ℕ) (z : EndValue) → EndFields budget z → IsEnd budget z
+end_to : (budget : ℕ) (z : EndValue) → EndFields budget z → IsEnd budget 0 z
 end_to budget z h =
     let two = AllByRecursion-append IsWord (regs_in 0 z) (regs_in 8 z) h.1.1.0.1 h.1.1.1.0.1 in
     let three = AllByRecursion-append IsWord (regs_in 0 z ++ regs_in 8 z) (regs_in 16 z) two h.1.1.1.1.0.1 in
@@ -138,51 +139,52 @@ end_to budget z h =
       dpc = h.1.0.dpc;
       registers = h.0.1;
       words = subst (AllByRecursion IsWord) (joined_again z.state.regs h.0.1) all;
-      no_rows = h.0.0;
+      few_rows = omega (arith, ap (λ (rows : List TimeRow). length rows) h.0.0);
+      times = subst (AllByRecursion AreTimes) (sym h.0.0) tt;
     }
 
 eight_of : (first : ℕ) (regs : List ℕ) → length regs ≡ 32 → first ≤ 24 → AllByRecursion IsWord regs → AreEight (eight_at first regs)
 eight_of first regs long within are = (
   length-take-le 8 (drop first regs) (omega (arith, long, length-drop first regs)),
-  (all_cut IsWord 8 (drop first regs) (all_cut IsWord first regs are).1).0,
+  (AllByRecursion-take_drop IsWord 8 (drop first regs) (AllByRecursion-take_drop IsWord first regs are).1).0,
 )
 
-end_from : (budget : ℕ) (z : EndValue) → IsEnd budget z → EndFields budget z
+end_from : (budget : ℕ) (z : EndValue) → IsEnd budget 0 z → EndFields budget z
 end_from budget z i =
     let eight : (first : ℕ) → first ≤ 24 → AreEight (regs_in first z) =
     λ first within. eight_of first z.state.regs i.registers within i.words in (
-      (i.no_rows, i.registers),
+      (nil_from_length z.rows (omega (arith, i.few_rows)), i.registers),
       (
         record { cycles = i.cycles; retired = i.retired; pc = i.pc; dpc = i.dpc },
         (eight 0 (omega arith), (eight 8 (omega arith), (eight 16 (omega arith), (eight 24 (omega arith), tt)))),
       ),
     )
 
-end_part : (budget core : ℕ) → budget < 2 ^ 64 → IsPart (IsEnd budget) (core_rows core) (end_at budget core)
+end_part : (budget core : ℕ) → budget < 2 ^ 64 → IsPart (IsEnd budget 0) (core_rows core) (end_at budget core)
 end_part budget core small =
-    part_as (EndFields budget) (IsEnd budget) (core_rows core) (core_rows core) (end_at budget core) (end_to budget) (end_from budget)
+    part_as (EndFields budget) (IsEnd budget 0) (core_rows core) (core_rows core) (end_at budget core) (end_to budget) (end_from budget)
     (λ z h. refl) (end_fields budget core small)
 
 -- ---- the ends of the cores
 
-ends_rows : (budget first n : ℕ) (cores : List EndValue) → EachFits (λ (core : ℕ). IsEnd budget) (range_with_len first n) cores
+ends_rows : (budget first n : ℕ) (cores : List EndValue) → EachFits (λ (core : ℕ). IsEnd budget 0) (range_with_len first n) cores
     → each_spell core_rows (range_with_len first n) cores ≡ rows_of_cores first cores
 ends_rows budget first zero [] h = refl
 ends_rows budget first zero (z ∷ cores) h = absurd h
 ends_rows budget first (suc n) [] h = absurd h
 ends_rows budget first (suc n) (z ∷ cores) h = ap (λ (r : Rows). core_rows first z ++ r) (ends_rows budget (first + 1) n cores h.1)
 
--- the ends of so many cores
+-- the ends of so many cores, without their timetables
 abbrev pub AreEnds : ℕ → ℕ → List EndValue → Type 0
-AreEnds budget cores ended = (length ended ≡ cores) × AllByRecursion (IsEnd budget) ended
+AreEnds budget cores ended = (length ended ≡ cores) × AllByRecursion (IsEnd budget 0) ended
 
 pub ends_part : (budget cores : ℕ) → budget < 2 ^ 64 → IsPart (AreEnds budget cores) (rows_of_cores 0) (ends_at budget cores)
 ends_part budget cores small =
     let keys = range_with_len 0 cores in
     let long : length keys ≡ cores = length-range_with_len 0 cores in
-    part_as (EachFits (λ (core : ℕ). IsEnd budget) keys) (AreEnds budget cores) (each_spell core_rows keys) (rows_of_cores 0)
+    part_as (EachFits (λ (core : ℕ). IsEnd budget 0) keys) (AreEnds budget cores) (each_spell core_rows keys) (rows_of_cores 0)
     (ends_at budget cores)
-    (λ ended h. let all = all_each (IsEnd budget) keys ended h in (all.0 ∙ long, all.1))
-    (λ ended h. each_all (IsEnd budget) keys ended (h.0 ∙ sym long) h.1)
+    (λ ended h. let all = all_each (IsEnd budget 0) keys ended h in (all.0 ∙ long, all.1))
+    (λ ended h. each_all (IsEnd budget 0) keys ended (h.0 ∙ sym long) h.1)
     (λ ended h. ends_rows budget 0 cores ended h)
-    (each_part (λ core. IsEnd budget) core_rows (end_at budget) (λ core. end_part budget core small) keys)
+    (each_part (λ core. IsEnd budget 0) core_rows (end_at budget) (λ core. end_part budget core small) keys)

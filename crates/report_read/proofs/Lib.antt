@@ -5,6 +5,7 @@ pub mod ListLaws
 pub mod OpeningLaws
 pub mod LastRowLaws
 pub mod CoreLaws
+pub mod TimetableLemmas
 pub mod OutcomeLaws
 pub mod PlainText
 pub mod WholeLaws

@@ -1,8 +1,7 @@
--- Rows of an image that are read one after another, as a loop does, and the cores that are left.
-use Rattle.std.proofs.Common.{◌≡◌, ℕ, suc, ◌+◌, ◌-◌, ◌<◌, ◌≤◌, List, ◌∷◌, ◌++◌, Result, Ok, ap, refl}
+-- Rows of an image that are read one after another, as a loop does.
+use Rattle.std.proofs.Common.{◌≡◌, ℕ, suc, ◌+◌, ◌-◌, ◌<◌, ◌≤◌, List, ◌++◌, Result, Ok, refl}
 use Rattle.std.proofs.Common.{arith}
 use Rattle.std.specs.Borrow.{Bor}
-use Rattle.std.specs.List.{range_with_len}
 use Rattle.kmp_base.specs.declared.fault.Fault.{Fault}
 use Rattle.kmp_base.proofs.ReadingLaws.{with_front_and_rest, all_read_and_rest, first_and_more, first_is_read, first_fails}
 use Rattle.row_reader.specs.Rows.{Rows}
@@ -10,8 +9,6 @@ use Rattle.row_reader.specs.Reading.{row_at}
 use Rattle.row_reader.specs.Gives.{stuck_rows, Fails}
 use Rattle.report_row_reader.specs.Reading.{bytes_row_of}
 use Rattle.report_read.specs.Reading.{full_rows_at}
-
--- ---- full rows of an image
 
 module _ (i n : ℕ) (rows : Rows) (front : List ℕ) (total : Result (List ℕ × Rows) Rows)
     (so_far : with_front_and_rest front (full_rows_at (n - i) rows) ≡ total) where
@@ -38,10 +35,3 @@ module _ (i n : ℕ) (rows : Rows) (front : List ℕ) (total : Result (List ℕ 
   full_done le =
       let none : n - i ≡ 0 = omega arith in
       all_read_and_rest front rows total (rw none at so_far)
-
--- ---- cores that are left
-
-pub range_next : (i n : ℕ) → i < n → range_with_len i (n - i) ≡ i ∷ range_with_len (i + 1) (n - (i + 1))
-range_next i n lt =
-    let more : n - i ≡ suc (n - (i + 1)) = omega arith in
-    ap (range_with_len i) more

@@ -11,7 +11,7 @@ use Rattle.kmp_base.specs.declared.setup.Policy.{Policy}
 use Rattle.kmp_base.specs.declared.setup.Policy.TheVariants as policies
 use Rattle.kmp_base.specs.declared.setup.Turns.{Turns}
 use Rattle.kmp_base.specs.declared.setup.Turns.TheVariants as turns
-use Rattle.std_laws.proofs.ListLaws.{AllByRecursion-append}
+use Rattle.std_laws.proofs.ListLaws.{AllByRecursion-append, AllByRecursion-take_drop, AllByRecursion-replicate}
 use Rattle.row_reader.specs.Rows.{Rows}
 use Rattle.row_reader.specs.Starts.{IsPart}
 use Rattle.kmp_base.specs.Bind.{◌>>=◌}
@@ -25,7 +25,6 @@ use Rattle.report_row_reader.proofs.RowLaws.{fixed_law, number_law, sets_law, po
 use Rattle.report_text.proofs.ImageLaws.{AreBytes}
 use Rattle.report_read.specs.BadRow.{BeginsOpening, opening_rows}
 use Rattle.report_read.specs.Reading.{OpeningValue, caches_at, header_at, full_rows_at, opening_at}
-use Rattle.report_read.proofs.ListLaws.{all_cut, all_zeros}
 
 -- ---- the header
 
@@ -170,7 +169,7 @@ full_to n bytes h =
 
 full_from : (n : ℕ) (bytes : List ℕ) → IsFull (suc n) bytes → BeginsFull n bytes
 full_from n bytes h =
-    let cut = all_cut IsByte 32 bytes h.1 in
+    let cut = AllByRecursion-take_drop IsByte 32 bytes h.1 in
     let long : length bytes ≡ 32 * suc n = h.0 in
     ((length-take-le 32 bytes (omega (arith, long)), cut.0), (omega (arith, length-drop 32 bytes, long), cut.1))
 
@@ -185,7 +184,7 @@ full_rows_part (suc n) =
     (then_part IsRowOfBytes (one_line bytes_row) (row_at (bytes_row_of 32)) (take 32) (λ bytes. IsFull n (drop 32 bytes))
     (λ bytes. full_rows n (drop 32 bytes))
     (λ first rows. full_rows_at n rows >>= λ q. Ok (first ++ q.0, q.1))
-    (row_part _ _ _ (bytes_law 32) (replicate 32 0, (refl, all_zeros IsByte 32 (omega arith))))
+    (row_part _ _ _ (bytes_law 32) (replicate 32 0, (refl, AllByRecursion-replicate IsByte 32 0 (omega arith))))
     (λ first fits. map_part (IsFull n) (full_rows n) (full_rows_at n) (λ bytes. (take 32 bytes ≡ first) × IsFull n (drop 32 bytes))
     (λ bytes. full_rows n (drop 32 bytes))
     (λ others. first ++ others)
@@ -315,11 +314,11 @@ opening_fits setup bytes header are some few = record {
   some = some;
   few = few;
   full = front_length bytes;
-  bytes = (all_cut IsByte (32 * full_of (length bytes)) bytes are).0;
+  bytes = (AllByRecursion-take_drop IsByte (32 * full_of (length bytes)) bytes are).0;
 }
 
 pub bytes_behind : (bytes : List ℕ) → AreBytes bytes → AreBytes (last_of bytes)
-bytes_behind bytes are = (all_cut IsByte (32 * full_of (length bytes)) bytes are).1
+bytes_behind bytes are = (AllByRecursion-take_drop IsByte (32 * full_of (length bytes)) bytes are).1
 
 -- so many rows of an image: those before its last, and more
 rows_at : (bytes : List ℕ) (n more : ℕ) → n ≡ full_of (length bytes) + more
@@ -371,7 +370,8 @@ begins_opening z rows rest fits are =
       setup = z.setup;
       header = fits.header;
       bytes = bytes;
-      are_bytes = AllByRecursion-append IsByte z.front zeros fits.bytes (all_zeros IsByte (z.size - length z.front) (omega arith));
+      are_bytes = AllByRecursion-append IsByte z.front zeros fits.bytes
+          (AllByRecursion-replicate IsByte (z.size - length z.front) 0 (omega arith));
       some = omega (arith, size, fits.some);
       few = omega (arith, size, fits.few);
       rest = rest;

@@ -1,7 +1,9 @@
 -- What follows a report's image is read as what it spells.
 use Rattle.std.proofs.Common.{◌≡◌, ℕ, suc, ◌+◌, ◌*◌, ◌^◌, ◌<◌, ◌≤◌, List, [], ◌∷◌, ◌++◌, length, map, refl, sym, ap, subst, ◌∙◌, arith}
 use Rattle.std.specs.Prelude.{codes, slice_index}
-use Rattle.std.specs.List.{AllByRecursion}
+use Rattle.std.specs.List.{AllByRecursion, range_with_len}
+use Rattle.std.proofs.lemmas.List.{length-map}
+use Rattle.std.proofs.lemmas.List.FromFn.{length-range_with_len}
 use Rattle.kmp_base.specs.declared.setup.Setup.{Setup}
 use Rattle.access_log.specs.declared.Entry.{Entry}
 use Rattle.access_log.specs.declared.Item.{Item}
@@ -13,19 +15,23 @@ use Rattle.row_reader.specs.Reading.{row_at}
 use Rattle.row_reader.specs.Starts.{IsPart, AreFit, EachFits, each_spell}
 use Rattle.row_reader.proofs.PartLaws.{one_line, row_part}
 use Rattle.row_reader.proofs.ManyLaws.{part_as, AreRows, BeginsOther, each_part, then_known, many_known, last_known}
+use Rattle.row_reader.proofs.EachManyLaws.{each_many_known}
 use Rattle.report_rows.specs.declared.MemoryWord.{MemoryWord}
 use Rattle.report_rows.specs.Ends.{EndValue}
-use Rattle.report_rows.specs.Bounds.{IsHeader, IsEntry, IsItem, IsEnd, IsMemoryWord, AreMemoryWords, IsCount}
+use Rattle.report_rows.specs.Bounds.{IsHeader, IsEntry, IsItem, most_rows, IsEnd, IsMemoryWord, AreMemoryWords, IsCount}
 use Rattle.report_rows.specs.Rows.{entry_row, item_row, core_rows, core_row, registers_row, memory_row, count_row, access_count_rows}
-use Rattle.report_rows.specs.Rows.{bus_count_rows, wait_count_rows}
+use Rattle.report_rows.specs.Rows.{bus_count_rows, wait_count_rows, timed_row}
 use Rattle.report_rows.specs.Names.{count_names}
-use Rattle.report_row_reader.specs.Reading.{entry_row_of, memory_row_of, count_row_of}
+use Rattle.report_row_reader.specs.Reading.{entry_row_of, memory_row_of, count_row_of, NumberedRow, after_row, is_timed, timed_row_of}
+use Rattle.report_row_reader.proofs.TimedLaws.{FitsAt, TimetableFits, timed_rows, timed_apart}
 use Rattle.report_row_reader.proofs.RowLaws.{fixed_law, entry_law, memory_law, count_law}
 use Rattle.report_text.specs.Report.{ReportValue}
-use Rattle.report_text.specs.Text.{rows_of_cores, count_rows}
-use Rattle.report_read.specs.Reading.{after_word, counts_at, outcome_at}
+use Rattle.report_text.specs.Text.{rows_of_cores, rows_of_timetables, count_rows}
+use Rattle.report_read.specs.Reading.{after_word, timed, with_timetables, counts_at, outcome_at}
 use Rattle.report_read.proofs.ListLaws.{all_each, each_all}
 use Rattle.report_read.proofs.CoreLaws.{AreEnds, ends_part}
+use Rattle.report_read.proofs.TimetableLemmas.{bare, together, apart_ends, apart_timetables, ends_to, ends_from, timed_lines, bare_rows}
+use Rattle.report_read.proofs.TimetableLemmas.{timetables_spelled, timetables_other}
 
 -- ---- accesses
 
@@ -117,6 +123,33 @@ counts_other counts rest = record {
   fails = refl;
 }
 
+-- ---- timetables
+
+abbrev AreTimetables : ℕ → ℕ → List (List NumberedRow) → Type 0
+AreTimetables most cores timetables = EachFits (λ (core : ℕ). TimetableFits most) (range_with_len 0 cores) timetables
+
+-- one for each core, and each fits
+timetables_to : (most cores : ℕ) (timetables : List (List NumberedRow)) → AreTimetables most cores timetables
+    → (length timetables ≡ cores) × AllByRecursion (TimetableFits most) timetables
+timetables_to most cores timetables h =
+    let all = all_each (TimetableFits most) (range_with_len 0 cores) timetables h in
+    (all.0 ∙ length-range_with_len 0 cores, all.1)
+
+timetables_from : (most cores : ℕ) (timetables : List (List NumberedRow)) → length timetables ≡ cores
+    → AllByRecursion (TimetableFits most) timetables → AreTimetables most cores timetables
+timetables_from most cores timetables same fit =
+    each_all (TimetableFits most) (range_with_len 0 cores) timetables (same ∙ sym (length-range_with_len 0 cores)) fit
+
+-- the rows of the counts begin with none of a timetable
+counts_untimed : (core : ℕ) (counts : List ℕ) (rest : Rows) → BeginsOther (is_timed core) (count_rows counts ++ rest)
+unfolding access_count_rows
+counts_untimed core counts rest = record {
+  first = count_row (codes "retired") (slice_index counts 0);
+  others = _;
+  are = refl;
+  fails = refl;
+}
+
 -- ---- counts
 
 -- the counts of a report
@@ -161,7 +194,7 @@ end_row = codes "end" ∷ []
 pub record IsOutcome (z : ReportValue) : Type 0 where
   pub items : AllByRecursion (IsItem z.setup.cores (memory_bytes z.image)) z.items
   pub cores : length z.cores ≡ z.setup.cores
-  pub ends : AllByRecursion (IsEnd z.setup.budget) z.cores
+  pub ends : AllByRecursion (IsEnd z.setup.budget (most_rows z.setup.machine)) z.cores
   pub words : AreMemoryWords (memory_bytes z.image) (4 * length z.image.code) z.words
   pub thirteen : length z.counts ≡ 13
   pub counts : AllByRecursion IsCount z.counts
@@ -172,7 +205,10 @@ IsOutcomeOf setup image z = ((z.setup ≡ setup) × (z.image ≡ image)) × IsOu
 
 -- the rows behind the image
 abbrev pub rows_behind : ReportValue → Rows
-rows_behind z = map item_row z.items ++ (rows_of_cores 0 z.cores ++ (map memory_row z.words ++ (count_rows z.counts ++ end_row ∷ [])))
+rows_behind z =
+    map item_row z.items
+    ++ (rows_of_cores 0 z.cores
+    ++ (map memory_row z.words ++ (rows_of_timetables 0 z.cores ++ (count_rows z.counts ++ end_row ∷ []))))
 
 make_report : Setup → ImageValue → List Item → List EndValue → List MemoryWord → List ℕ → ReportValue
 make_report setup image items cores words counts =
@@ -182,14 +218,16 @@ make_report_is : (z : ReportValue) → make_report z.setup z.image z.items z.cor
 unfolding make_report
 make_report_is z = refl
 
-report_is : (z : ReportValue) (setup : Setup) (image : ImageValue) (accesses : List Entry) (cores : List EndValue) (words : List MemoryWord)
-    (counts : List ℕ)
-    → AreDone z.items → z.setup ≡ setup → z.image ≡ image → entries z.items ≡ accesses → z.cores ≡ cores → z.words ≡ words
-    → z.counts ≡ counts
-    → make_report setup image (done_of accesses) cores words counts ≡ z
-report_is z setup image accesses cores words counts done a b c d e f =
+report_is : (z : ReportValue) (setup : Setup) (image : ImageValue) (accesses : List Entry) (ends : List EndValue) (words : List MemoryWord)
+    (timetables : List (List NumberedRow)) (counts : List ℕ)
+    → AreDone z.items → z.setup ≡ setup → z.image ≡ image → entries z.items ≡ accesses → map bare z.cores ≡ ends → z.words ≡ words
+    → map timed z.cores ≡ timetables → z.counts ≡ counts
+    → make_report setup image (done_of accesses) (with_timetables ends timetables) words counts ≡ z
+report_is z setup image accesses ends words timetables counts done a b c d e f g =
     let all = make_report_is z in
     let items : done_of accesses ≡ z.items = ap done_of (sym c) ∙ done in
+    let cores : with_timetables ends timetables ≡ z.cores = ap (λ es. with_timetables es timetables) (sym d)
+    ∙ ap (with_timetables (map bare z.cores)) (sym f) ∙ together z.cores in
     cc
 
 -- a report of this setup and this image whose items are accesses
@@ -200,32 +238,64 @@ IsOf setup image z = AreDone z.items × ((z.setup ≡ setup) × (z.image ≡ ima
 abbrev OutcomeFields : Setup → ImageValue → ReportValue → Type 0
 OutcomeFields setup image z =
     AreEntries setup.cores (memory_bytes image) 0 (entries z.items)
-    × (AreEnds setup.budget setup.cores z.cores
+    × (AreEnds setup.budget setup.cores (map bare z.cores)
     × (AreWords (memory_bytes image) (4 * length image.code) z.words
-    × (AreCounts z.counts × (Unit {0} × Unit {0}))))
+    × (AreTimetables (most_rows setup.machine) setup.cores (map timed z.cores) × (AreCounts z.counts × (Unit {0} × Unit {0})))))
+
+-- the rows behind the memory words, and behind the cores, as they are read
+abbrev rows_timed : Setup → ReportValue → Rows
+rows_timed setup z = each_spell timed_lines (range_with_len 0 setup.cores) (map timed z.cores)
+    ++ (count_rows z.counts ++ ((end_row ∷ []) ++ []))
 
 -- the rows behind the image as they are read
-abbrev rows_read : ReportValue → Rows
-rows_read z = map entry_row (entries z.items)
-    ++ (rows_of_cores 0 z.cores ++ (map memory_row z.words ++ (count_rows z.counts ++ ((end_row ∷ []) ++ []))))
+abbrev rows_read : Setup → ReportValue → Rows
+rows_read setup z =
+    map entry_row (entries z.items) ++ (rows_of_cores 0 (map bare z.cores) ++ (map memory_row z.words ++ rows_timed setup z))
 
 outcome_fields : (setup : Setup) (image : ImageValue) → 1 ≤ setup.cores → setup.cores ≤ 8 → setup.budget < 2 ^ 64
     → memory_bytes image ≤ 2 ^ 32
-    → IsPart (λ z. IsOf setup image z × OutcomeFields setup image z) rows_read (outcome_at setup image)
+    → IsPart (λ z. IsOf setup image z × OutcomeFields setup image z) (rows_read setup) (outcome_at setup image)
 unfolding outcome_at make_report
 outcome_fields setup image some few budget small =
+    let most = most_rows setup.machine in
     many_known _ _ _ _ _ 0 (λ z. entries z.items) _ _ _ _ (entry_rows setup.cores (memory_bytes image) some few small)
-    (λ z h. cores_other setup.budget setup.cores z.cores (map memory_row z.words ++ (count_rows z.counts ++ ((end_row ∷ []) ++ []))) some
-    h.0) (λ accesses _.
-    then_known _ _ _ (λ z. z.cores) _ _ _ _ (ends_part setup.budget setup.cores budget) (λ cores _.
+    (λ z h. cores_other setup.budget setup.cores (map bare z.cores) (map memory_row z.words ++ rows_timed setup z) some h.0) (λ accesses _.
+    then_known _ _ _ (λ z. map bare z.cores) _ _ _ _ (ends_part setup.budget setup.cores budget) (λ ends are.
     many_known _ _ _ _ _ (4 * length image.code) (λ z. z.words) _ _ _ _ (word_rows (memory_bytes image) small)
-    (λ z h. counts_other z.counts ((end_row ∷ []) ++ [])) (λ words _.
+    (λ z h. timetables_other (range_with_len 0 setup.cores) (map timed z.cores) (count_rows z.counts ++ ((end_row ∷ []) ++ []))
+    (counts_other z.counts ((end_row ∷ []) ++ []))) (λ words _.
+    each_many_known (λ core. FitsAt most) (λ core it. timed_row core it.n it.row) is_timed (timed_row_of most) after_row (timed_rows most)
+    (2 ^ 64) timed_apart setup.cores (λ z. map timed z.cores) _ _ _ _ (omega arith)
+    (λ core z h. counts_untimed core z.counts ((end_row ∷ []) ++ [])) (λ timetables fit.
     then_known _ _ _ (λ z. z.counts) _ _ _ _ counts_part (λ counts _.
     then_known _ _ _ (λ z. tt) _ _ _ _ (row_part _ _ _ (fixed_law end_row) (tt, tt)) (λ end _.
-    last_known (record { setup = setup; image = image; items = done_of accesses; cores = cores; words = words; counts = counts }) _
-    (λ z k. report_is z setup image accesses cores words counts k.1.1.1.1.1.0 k.1.1.1.1.1.1.0 k.1.1.1.1.1.1.1 k.1.1.1.1.0 k.1.1.1.0 k.1.1.0
-    k.1.0)
-    (refl, (refl, (refl, (refl, (entries_done accesses, (ap done_of (entries_done accesses), (refl, refl))))))))))))
+    let told = timetables_to most setup.cores timetables fit in
+    let same : length timetables ≡ length ends = told.0 ∙ sym are.0 in
+    last_known (record {
+      setup = setup;
+      image = image;
+      items = done_of accesses;
+      cores = with_timetables ends timetables;
+      words = words;
+      counts = counts;
+    }) _
+    (λ z k. report_is z setup image accesses ends words timetables counts k.1.1.1.1.1.1.0 k.1.1.1.1.1.1.1.0 k.1.1.1.1.1.1.1.1 k.1.1.1.1.1.0
+    k.1.1.1.1.0 k.1.1.1.0 k.1.1.0 k.1.0) (
+      refl,
+      (
+        refl,
+        (
+          apart_timetables most ends timetables same told.1,
+          (
+            refl,
+            (
+              apart_ends setup.budget ends timetables same are.1,
+              (entries_done accesses, (ap done_of (entries_done accesses), (refl, refl))),
+            ),
+          ),
+        ),
+      ),
+    )))))))
 
 outcome_to : (setup : Setup) (image : ImageValue) (z : ReportValue) → IsOf setup image z × OutcomeFields setup image z
     → IsOutcomeOf setup image z
@@ -234,17 +304,19 @@ outcome_to setup image z h =
     let items : AllByRecursion (IsItem setup.cores bytes) z.items =
     subst (AllByRecursion (IsItem setup.cores bytes)) h.0.0 (done_fit setup.cores bytes 0 (entries z.items) h.1.0) in
     let words : AreMemoryWords bytes (4 * length image.code) z.words = words_to bytes (4 * length image.code) z.words h.1.1.1.0 in
+    let timetables = timetables_to (most_rows setup.machine) setup.cores (map timed z.cores) h.1.1.1.1.0 in
+    let ends = ends_to setup.budget (most_rows setup.machine) z.cores h.1.1.0.1 timetables.1 in
     let s = sym h.0.1.0 in
     let i = sym h.0.1.1 in (
       h.0.1,
       record {
         items = subst (λ (m : ImageValue). AllByRecursion (IsItem z.setup.cores (memory_bytes m)) z.items) i
             (subst (λ (t : Setup). AllByRecursion (IsItem t.cores bytes) z.items) s items);
-        cores = h.1.1.0.0 ∙ ap (λ (t : Setup). t.cores) s;
-        ends = subst (λ (t : Setup). AllByRecursion (IsEnd t.budget) z.cores) s h.1.1.0.1;
+        cores = sym (length-map z.cores bare) ∙ h.1.1.0.0 ∙ ap (λ (t : Setup). t.cores) s;
+        ends = subst (λ (t : Setup). AllByRecursion (IsEnd t.budget (most_rows t.machine)) z.cores) s ends;
         words = subst (λ (m : ImageValue). AreMemoryWords (memory_bytes m) (4 * length m.code) z.words) i words;
-        thirteen = h.1.1.1.1.0.0;
-        counts = h.1.1.1.1.0.1;
+        thirteen = h.1.1.1.1.1.0.0;
+        counts = h.1.1.1.1.1.0.1;
       },
     )
 
@@ -253,24 +325,36 @@ outcome_from : (setup : Setup) (image : ImageValue) (z : ReportValue) → IsOutc
 outcome_from setup image z h =
     let bytes = memory_bytes z.image in
     let o = h.1 in
+    let most = most_rows z.setup.machine in
+    let ends = ends_from z.setup.budget most z.cores o.ends in
+    let timetables = timetables_from most z.setup.cores (map timed z.cores) (length-map z.cores timed ∙ o.cores) ends.1 in
     let fields : OutcomeFields z.setup z.image z = (
       entries_fit z.setup.cores bytes 0 z.items o.items,
-      ((o.cores, o.ends), (words_from bytes (4 * length z.image.code) z.words o.words, ((o.thirteen, o.counts), (tt, tt)))),
+      (
+        (length-map z.cores bare ∙ o.cores, ends.0),
+        (words_from bytes (4 * length z.image.code) z.words o.words, (timetables, ((o.thirteen, o.counts), (tt, tt)))),
+      ),
     ) in (
       (items_done z.setup.cores bytes z.items o.items, h.0),
       subst (λ (m : ImageValue). OutcomeFields setup m z) h.0.1 (subst (λ (t : Setup). OutcomeFields t z.image z) h.0.0 fields),
     )
 
-outcome_rows_are : (z : ReportValue) → AreDone z.items → rows_read z ≡ rows_behind z
-outcome_rows_are z done = ap (λ (r : Rows). r
-    ++ (rows_of_cores 0 z.cores ++ (map memory_row z.words ++ (count_rows z.counts ++ end_row ∷ []))))
+outcome_rows_are : (setup : Setup) (z : ReportValue) → AreDone z.items → length z.cores ≡ setup.cores → rows_read setup z ≡ rows_behind z
+outcome_rows_are setup z done same =
+    let others : Rows = count_rows z.counts ++ end_row ∷ [] in
+    ap (λ (r : Rows). r ++ (rows_of_cores 0 (map bare z.cores) ++ (map memory_row z.words ++ rows_timed setup z)))
     (done_rows (entries z.items) ∙ ap (map item_row) done)
+    ∙ ap (λ (r : Rows). map item_row z.items ++ (r ++ (map memory_row z.words ++ rows_timed setup z))) (bare_rows 0 z.cores)
+    ∙ ap (λ (r : Rows). map item_row z.items ++ (rows_of_cores 0 z.cores ++ (map memory_row z.words ++ (r ++ others))))
+    (timetables_spelled 0 setup.cores z.cores same)
 
 pub outcome_part : (setup : Setup) (image : ImageValue) → IsHeader setup → memory_bytes image ≤ 2 ^ 32
     → IsPart (IsOutcomeOf setup image) rows_behind (outcome_at setup image)
 outcome_part setup image header small =
     let few : setup.cores ≤ 8 = header.limits.cores in
     let most : setup.budget ≤ 100000 = header.limits.budget in
-    part_as (λ z. IsOf setup image z × OutcomeFields setup image z) (IsOutcomeOf setup image) rows_read rows_behind (outcome_at setup image)
-    (outcome_to setup image) (outcome_from setup image) (λ z h. outcome_rows_are z h.0.0)
+    part_as (λ z. IsOf setup image z × OutcomeFields setup image z) (IsOutcomeOf setup image) (rows_read setup) rows_behind
+    (outcome_at setup image)
+    (outcome_to setup image) (outcome_from setup image)
+    (λ z h. outcome_rows_are setup z h.0.0 (sym (length-map z.cores bare) ∙ h.1.1.0.0))
     (outcome_fields setup image header.limits.some_cores few (omega (arith, most)) small)

@@ -3,18 +3,21 @@ use Rattle.std.proofs.Common.{ℕ, ◌+◌, ◌/◌, ◌^◌, ◌<◌, ◌≤◌
 use Rattle.std.specs.Prelude.{codes}
 use Rattle.std.specs.List.{AllByRecursion, range_with_len}
 use Rattle.std_laws.proofs.ListLaws.{AllByRecursion-append}
+use Rattle.kmp_base.specs.declared.setup.MachineKind.{MachineKind}
+use Rattle.kmp_base.specs.declared.setup.MachineKind.TheVariants as machines
 use Rattle.access_log.specs.declared.Item.{Item}
 use Rattle.image_file.specs.Value.{ImageValue, image_bytes, memory_bytes}
 use Rattle.row_reader.specs.Rows.{Rows, IsPlainRow}
 use Rattle.row_reader.proofs.PlainLaws.{plain_by_test}
 use Rattle.report_rows.specs.declared.MemoryWord.{MemoryWord}
 use Rattle.report_rows.specs.Ends.{EndValue}
-use Rattle.report_rows.specs.Bounds.{IsItem, IsEnd}
-use Rattle.report_rows.specs.Rows.{bytes_row_at, item_row, memory_row, core_rows, header_rows}
+use Rattle.report_rows.specs.Bounds.{IsItem, most_rows, IsEnd}
+use Rattle.report_rows.specs.Rows.{bytes_row_at, item_row, memory_row, core_rows, timetable_rows, header_rows}
 use Rattle.report_row_reader.proofs.PlainRowLaws.{header_plain, number_row_plain, bytes_row_plain, item_plain, memory_plain, core_rows_plain}
+use Rattle.report_row_reader.proofs.PlainRowLaws.{timetable_plain}
 use Rattle.report_row_reader.proofs.PlainRowLaws.{count_rows_plain}
 use Rattle.report_text.specs.Report.{ReportValue}
-use Rattle.report_text.specs.Text.{image_rows, rows_of_cores, count_rows, run_rows, outcome_rows, report_rows}
+use Rattle.report_text.specs.Text.{image_rows, rows_of_cores, rows_of_timetables, count_rows, run_rows, outcome_rows, report_rows}
 use Rattle.report_text.specs.Form.{IsReport}
 
 abbrev ArePlain : Rows → Type 0
@@ -36,12 +39,26 @@ items_plain : (cores bytes : ℕ) (items : List Item) → cores ≤ 8 → AllByR
 items_plain cores bytes [] few are = tt
 items_plain cores bytes (item ∷ items) few are = (item_plain cores bytes item few are.0, items_plain cores bytes items few are.1)
 
-cores_plain : (budget first : ℕ) (cores : List EndValue) → budget < 2 ^ 64 → first + length cores < 2 ^ 64
-    → AllByRecursion (IsEnd budget) cores → ArePlain (rows_of_cores first cores)
-cores_plain budget first [] small few are = tt
-cores_plain budget first (ended ∷ cores) small few are =
+cores_plain : (budget most first : ℕ) (cores : List EndValue) → budget < 2 ^ 64 → first + length cores < 2 ^ 64
+    → AllByRecursion (IsEnd budget most) cores → ArePlain (rows_of_cores first cores)
+cores_plain budget most first [] small few are = tt
+cores_plain budget most first (ended ∷ cores) small few are =
     AllByRecursion-append IsPlainRow (core_rows first ended) (rows_of_cores (first + 1) cores)
-    (core_rows_plain first budget ended (omega arith) small are.0) (cores_plain budget (first + 1) cores small (omega arith) are.1)
+    (core_rows_plain first budget most ended (omega arith) small are.0)
+    (cores_plain budget most (first + 1) cores small (omega arith) are.1)
+
+timetables_plain : (budget most first : ℕ) (cores : List EndValue) → most < 2 ^ 64 → first + length cores < 2 ^ 64
+    → AllByRecursion (IsEnd budget most) cores → ArePlain (rows_of_timetables first cores)
+timetables_plain budget most first [] small few are = tt
+timetables_plain budget most first (ended ∷ cores) small few are =
+    AllByRecursion-append IsPlainRow (timetable_rows first ended.rows) (rows_of_timetables (first + 1) cores)
+    (timetable_plain first budget most ended (omega arith) small are.0)
+    (timetables_plain budget most (first + 1) cores small (omega arith) are.1)
+
+few_rows : (machine : MachineKind) → most_rows machine < 2 ^ 64
+few_rows machines.Plain = omega arith
+few_rows machines.Pipe = omega arith
+few_rows machines.Full = omega arith
 
 words_plain : (words : List MemoryWord) → ArePlain (map memory_row words)
 words_plain [] = tt
@@ -56,9 +73,15 @@ report_plain r i =
     (image_plain r.image i.image_size) in
     let run = AllByRecursion-append IsPlainRow (header_rows r.setup ++ image_rows r.image) (map item_row r.items) header
     (items_plain r.setup.cores (memory_bytes r.image) r.items few i.items) in
-    let cores = cores_plain r.setup.budget 0 r.cores (omega (arith, most)) (omega (arith, i.cores, few)) i.ends in
+    let machine_rows = most_rows r.setup.machine in
+    let within : 0 + length r.cores < 2 ^ 64 = omega (arith, i.cores, few) in
+    let cores = cores_plain r.setup.budget machine_rows 0 r.cores (omega (arith, most)) within i.ends in
+    let timetables = timetables_plain r.setup.budget machine_rows 0 r.cores (few_rows r.setup.machine) within i.ends in
     let words = AllByRecursion-append IsPlainRow (rows_of_cores 0 r.cores) (map memory_row r.words) cores (words_plain r.words) in
-    let outcome = AllByRecursion-append IsPlainRow (rows_of_cores 0 r.cores ++ map memory_row r.words) (count_rows r.counts) words
+    let times = AllByRecursion-append IsPlainRow (rows_of_cores 0 r.cores ++ map memory_row r.words) (rows_of_timetables 0 r.cores) words
+    timetables in
+    let outcome = AllByRecursion-append IsPlainRow
+    (rows_of_cores 0 r.cores ++ map memory_row r.words ++ rows_of_timetables 0 r.cores) (count_rows r.counts) times
     (count_rows_plain r.counts i.counts) in
     AllByRecursion-append IsPlainRow (run_rows r ++ outcome_rows r) ((codes "end" ∷ []) ∷ [])
     (AllByRecursion-append IsPlainRow (run_rows r) (outcome_rows r) run outcome) ((plain_by_test (codes "end") refl, tt), tt)

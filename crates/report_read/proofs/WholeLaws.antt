@@ -17,7 +17,7 @@ use Rattle.row_reader.proofs.TextLaws.{text_is, rows_are}
 use Rattle.report_rows.specs.Bounds.{IsHeader}
 use Rattle.report_rows.specs.Rows.{number_row, item_row, memory_row, header_rows}
 use Rattle.report_text.specs.Report.{ReportValue}
-use Rattle.report_text.specs.Text.{rows_of_cores, count_rows, image_rows, report_rows, report_text}
+use Rattle.report_text.specs.Text.{rows_of_cores, rows_of_timetables, count_rows, image_rows, report_rows, report_text}
 use Rattle.report_text.specs.Form.{IsReport}
 use Rattle.report_read.specs.BadRow.{BeginsReport, BeginsOpening, MayStand}
 use Rattle.report_read.specs.Reading.{OpeningValue, opening_at, image_row_of, outcome_at, report_at, whole, read_of}
@@ -34,10 +34,10 @@ use Rattle.report_read.proofs.OutcomeLaws.{IsOutcome, IsOutcomeOf, end_row, rows
 abbrev opening_in : ReportValue → OpeningValue
 opening_in r = opening_of r.setup (image_bytes r.image)
 
-regroup : (header size front last items cores words counts end rest : Rows)
-    → (((header ++ (size ++ (front ++ last)) ++ items) ++ (cores ++ words ++ counts)) ++ end) ++ rest
-    ≡ (header ++ (size ++ front)) ++ (last ++ ((items ++ (cores ++ (words ++ (counts ++ end)))) ++ rest))
-regroup header size front last items cores words counts end rest = simp append_assoc
+regroup : (header size front last items cores words times counts end rest : Rows)
+    → (((header ++ (size ++ (front ++ last)) ++ items) ++ (cores ++ words ++ times ++ counts)) ++ end) ++ rest
+    ≡ (header ++ (size ++ front)) ++ (last ++ ((items ++ (cores ++ (words ++ (times ++ (counts ++ end))))) ++ rest))
+regroup header size front last items cores words times counts end rest = simp append_assoc
 
 image_rows_are : (image : ImageValue) → image_rows image
     ≡ (number_row (codes "image") (length (image_bytes image)) ∷ [])
@@ -52,10 +52,12 @@ parts_are : (r : ReportValue) (rest : Rows) → report_rows r ++ rest ≡ rows_o
 unfolding report_rows
 parts_are r rest =
     ap (λ (image : Rows). (((header_rows r.setup ++ image ++ map item_row r.items)
-    ++ (rows_of_cores 0 r.cores ++ map memory_row r.words ++ count_rows r.counts)) ++ end_row ∷ []) ++ rest) (image_rows_are r.image)
+    ++ (rows_of_cores 0 r.cores ++ map memory_row r.words ++ rows_of_timetables 0 r.cores ++ count_rows r.counts)) ++ end_row ∷ []) ++ rest)
+    (image_rows_are r.image)
     ∙ regroup (header_rows r.setup) (number_row (codes "image") (length (image_bytes r.image)) ∷ [])
     (full_rows (full_of (length (image_bytes r.image))) (front_of (image_bytes r.image))) (last_row r.image ∷ [])
-    (map item_row r.items) (rows_of_cores 0 r.cores) (map memory_row r.words) (count_rows r.counts) (end_row ∷ []) rest
+    (map item_row r.items) (rows_of_cores 0 r.cores) (map memory_row r.words) (rows_of_timetables 0 r.cores) (count_rows r.counts)
+    (end_row ∷ []) rest
 
 all_parts_are : (r : ReportValue) → report_rows r ≡ rows_of_opening (opening_in r) ++ (last_row r.image ∷ (rows_behind r ++ []))
 all_parts_are r = sym (append-nil (report_rows r)) ∙ parts_are r []

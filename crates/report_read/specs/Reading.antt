@@ -14,12 +14,15 @@ use Rattle.image_file.specs.Reading.{image_meaning}
 use Rattle.row_reader.specs.Rows.{Row, Rows, is_named}
 use Rattle.kmp_base.specs.Bind.{◌>>=◌}
 use Rattle.row_reader.specs.Reading.{row_at, many_at, each_at}
+use Rattle.timetable.specs.declared.rows.TimeRow.{TimeRow}
 use Rattle.report_rows.specs.declared.MemoryWord.{MemoryWord}
 use Rattle.report_row_reader.specs.declared.read.EndRow.{EndRow}
 use Rattle.report_rows.specs.Ends.{EndValue}
 use Rattle.report_rows.specs.Names.{count_names}
+use Rattle.report_rows.specs.Bounds.{most_rows}
 use Rattle.report_row_reader.specs.Reading.{fixed_of, number_row_of, sets_row_of, policy_row_of, turns_row_of, bytes_row_of, entry_row_of}
-use Rattle.report_row_reader.specs.Reading.{end_row_of, registers_row_of, memory_row_of, count_row_of}
+use Rattle.report_row_reader.specs.Reading.{end_row_of, registers_row_of, memory_row_of, count_row_of, NumberedRow, numbered, after_row}
+use Rattle.report_row_reader.specs.Reading.{is_timed, timed_row_of}
 use Rattle.report_text.specs.Report.{ReportValue}
 
 -- ---- the header
@@ -98,7 +101,7 @@ image_row_of size front row = with_last front (bytes_row_of (size - length front
 abbrev pub entries_at : ℕ → ℕ → Rows → Result (List Entry × Rows) Rows
 entries_at cores bytes rows = many_at (is_named (codes "A")) (λ low. entry_row_of cores bytes) (λ entry. 0) 0 rows
 
--- the end of a core, by its row and its registers
+-- the end of a core, by its row and its registers, without its timetable
 abbrev pub end_of_rows : EndRow → List ℕ → List ℕ → List ℕ → List ℕ → EndValue
 end_of_rows row a b c d = record {
   end = row.end;
@@ -126,6 +129,28 @@ after_word word = word.addr + 4
 abbrev pub words_at : ℕ → ℕ → Rows → Result (List MemoryWord × Rows) Rows
 words_at bytes low rows = many_at (is_named (codes "W")) (memory_row_of bytes) after_word low rows
 
+-- the timetable of a core, of so many rows at most
+abbrev pub timetable_at : ℕ → ℕ → Rows → Result (List NumberedRow × Rows) Rows
+timetable_at most core rows = many_at (is_timed core) (timed_row_of most core) after_row 0 rows
+
+-- those of so many cores
+abbrev pub timetables_at : ℕ → ℕ → Rows → Result (List (List NumberedRow) × Rows) Rows
+timetables_at most cores rows = each_at (timetable_at most) (range_with_len 0 cores) rows
+
+-- an end with this timetable
+abbrev pub with_rows : EndValue → List TimeRow → EndValue
+with_rows ended rows = record { end = ended.end; cycles = ended.cycles; retired = ended.retired; state = ended.state; rows = rows }
+
+-- ends with these timetables, each with its own
+abbrev pub with_timetables : List EndValue → List (List NumberedRow) → List EndValue
+with_timetables [] more = []
+with_timetables (ended ∷ ends) [] = []
+with_timetables (ended ∷ ends) (rows ∷ more) = with_rows ended (map (λ (it : NumberedRow). it.row) rows) ∷ with_timetables ends more
+
+-- the timetable of an end, as it is read
+abbrev pub timed : EndValue → List NumberedRow
+timed ended = numbered 0 ended.rows
+
 abbrev pub counts_at : Rows → Result (List ℕ × Rows) Rows
 counts_at rows = each_at (λ name. row_at (count_row_of name)) count_names rows
 
@@ -135,14 +160,15 @@ outcome_at setup image rows = do
   entries ← entries_at setup.cores (memory_bytes image) rows
   ends ← ends_at setup.budget setup.cores entries.1
   words ← words_at (memory_bytes image) (4 * length image.code) ends.1
-  counts ← counts_at words.1
+  timetables ← timetables_at (most_rows setup.machine) setup.cores words.1
+  counts ← counts_at timetables.1
   last ← row_at (fixed_of (codes "end" ∷ [])) counts.1
   Ok (
     record {
       setup = setup;
       image = image;
       items = map (λ (entry : Entry). Done entry) entries.0;
-      cores = ends.0;
+      cores = with_timetables ends.0 timetables.0;
       words = words.0;
       counts = counts.0;
     },

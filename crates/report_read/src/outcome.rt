@@ -5,15 +5,18 @@ ghost use Rattle.access_log.specs.declared.Item.TheVariants.{Done};
 ghost use Rattle.row_reader.specs.Rows.{rows_of};
 ghost use Rattle.row_reader.specs.Gives.{Gives};
 ghost use Rattle.report_rows.specs.Ends.{end_value};
-ghost use Rattle.report_read.specs.Reading.{entries_at, end_at, ends_at, words_at, counts_at, outcome_at};
+ghost use Rattle.report_row_reader.specs.Reading.{numbered};
+ghost use Rattle.report_read.specs.Reading.{entries_at, end_at, ends_at, words_at, timetable_at, timetables_at, timed, with_timetables, counts_at, outcome_at};
 
 use crate::rows::{first_row, registers_at};
 use access_log::{Entry, History, Item};
 use image_file::Image;
 use kmp_base::{Fault, Setup};
 use mips_isa::CoreState;
-use report_row_reader::{count_row, end_row, entry_row, last_row, memory_row};
-use report_rows::{Counts, MemoryWord, count_name};
+use report_row_reader::{
+    count_row, end_row, entry_row, last_row, memory_row, timed_parts, timed_row,
+};
+use report_rows::{Counts, MemoryWord, count_name, most_rows};
 use report_text::{NoMemory, Report};
 use row_reader::{Stuck, named_row};
 use std::alloc::Global;
@@ -54,7 +57,7 @@ fn registers(a: [u32; 8], b: [u32; 8], c: [u32; 8], d: [u32; 8]) -> [u32; 32]
     registers
 }
 
-/// How a core ended.
+/// How a core ended, without its timetable.
 #[tactic(auto, unfolding(report_row_reader::specs::Reading::end_row_of, crate::specs::Reading::end_at))]
 fn end<'a>(
     alloc: Global,
@@ -83,14 +86,15 @@ fn end<'a>(
     Ok((ended, rest))
 }
 
-/// How each core ended.
+/// How each core ended, without its timetable.
 fn ends<'a>(
     alloc: Global,
     text: &'a [u8],
     budget: u32,
     cores: u32,
 ) -> Result<(Vec<CoreEnd>, &'a [u8]), Stuck<'a>>
-    ensures { Gives (λ x. (map end_value x.0.items, rows_of x.1.now)) result (ends_at budget cores (rows_of text.now)) }
+    ensures read { Gives (λ x. (map end_value x.0.items, rows_of x.1.now)) result (ends_at budget cores (rows_of text.now)) }
+    ensures count { IfOk result (λ x. length x.0.items ≡ cores) }
 {
     let mut ends = Vec::new(alloc);
     let mut rest = text;
@@ -125,6 +129,51 @@ fn words<'a>(
         rest = behind;
     }
     Ok((words, rest))
+}
+
+/// The timetable of a core that stands first in a text, of so many rows at most.
+#[tactic(auto, unfolding(report_row_reader::specs::Reading::timed_row_of))]
+fn timetable<'a>(
+    alloc: Global,
+    text: &'a [u8],
+    core: u32,
+    most: u32,
+) -> Result<(Rows, &'a [u8]), Stuck<'a>>
+    ensures { Gives (λ x. (numbered 0 x.0.rows, rows_of x.1.now)) result (timetable_at most core (rows_of text.now)) }
+{
+    let mut rows = Vec::new(alloc);
+    let mut rest = text;
+    'rows: while let Some((parts, behind)) = timed_parts(rest, core) {
+        let Some(row) = timed_row(parts, rows.len() as u32, most) else {
+            return Err(Fault::Cause(rest));
+        };
+        rows.push(row)?;
+        rest = behind;
+    }
+    Ok((Rows::from_vec(rows), rest))
+}
+
+/// How each core ended, with its timetable, of so many rows at most.
+fn timetables<'a>(
+    alloc: Global,
+    text: &'a [u8],
+    ends: Vec<CoreEnd>,
+    most: u32,
+) -> Result<(Vec<CoreEnd>, &'a [u8]), Stuck<'a>>
+    requires few { length ends.items ≤ 8 }
+    ensures read { Gives (λ x. (map timed (map end_value x.0.items), rows_of x.1.now)) result
+        (timetables_at most (length ends.items) (rows_of text.now)) }
+    ensures ends { IfOk result (λ x.
+        with_timetables (map end_value ends.items) (map timed (map end_value x.0.items)) ≡ map end_value x.0.items) }
+{
+    let mut cores = ends;
+    let mut rest = text;
+    for core in 0..cores.len() {
+        let (rows, behind) = timetable(alloc, rest, core as u32, most)?;
+        cores[core].rows = rows;
+        rest = behind;
+    }
+    Ok((cores, rest))
 }
 
 /// The counts.
@@ -173,8 +222,9 @@ pub(crate) fn outcome<'a>(
     let (entries, rest) = entries(alloc, text, setup.cores, bytes)?;
     let history = history(alloc, &entries)?;
     drop(entries);
-    let (cores, rest) = ends(alloc, rest, setup.budget, setup.cores)?;
+    let (ends, rest) = ends(alloc, rest, setup.budget, setup.cores)?;
     let (words, rest) = words(alloc, rest, bytes, 4 * image.code.len() as u32)?;
+    let (cores, rest) = timetables(alloc, rest, ends, most_rows(setup.machine))?;
     let (counts, rest) = counts(rest)?;
     let (_, rest) = first_row(rest, |row| last_row(row))?;
     let report = Report {

@@ -1,4 +1,5 @@
 pub mod ValueLaws
 pub mod RowLaws
+pub mod TimedLaws
 pub mod PlainRowLaws
 pub mod LoopLemmas

@@ -1,6 +1,6 @@
 -- The rows of a report are plain, so they can be told from its text.
-use Rattle.std.proofs.Common.{◌≡◌, ℕ, zero, suc, ◌^◌, ◌<◌, ◌≤◌, true, List, [], ◌∷◌, ◌++◌, take, drop, map, refl, arith}
-use Rattle.std.specs.Prelude.{codes, slice_index, slice_index_or}
+use Rattle.std.proofs.Common.{◌≡◌, ℕ, zero, suc, ◌+◌, ◌^◌, ◌<◌, ◌≤◌, true, length, List, [], ◌∷◌, ◌++◌, take, drop, map, refl, arith}
+use Rattle.std.specs.Prelude.{codes, slice_index, slice_index_or, Option, None, Some, IfSome}
 use Rattle.std.specs.List.{AllByRecursion}
 use Rattle.kmp_base.specs.Text.{hex8}
 use Rattle.kmp_base.specs.declared.setup.Setup.{Setup}
@@ -17,17 +17,21 @@ use Rattle.access_log.specs.declared.Entry.{Entry}
 use Rattle.access_log.specs.declared.Item.{Item}
 use Rattle.access_log.specs.declared.Item.TheVariants.{Done, Bus}
 use Rattle.timetable.specs.declared.End.{End}
+use Rattle.timetable.specs.declared.rows.TimeRow.{TimeRow}
 use Rattle.timetable.specs.declared.End.TheVariants as ends
 use Rattle.row_reader.specs.Rows.{IsPlain, IsPlainRow}
 use Rattle.row_reader.proofs.PlainLaws.{passes, plain_by_test, decimal_plain, hex8_plain, bytes_plain, word_or_dash_plain}
+use Rattle.row_reader.proofs.PlainLaws.{number_or_dash_plain}
+use Rattle.row_reader.specs.Numbers.{number_or_dash}
 use Rattle.report_rows.specs.declared.MemoryWord.{MemoryWord}
 use Rattle.report_rows.specs.Ends.{EndValue}
 use Rattle.kmp_base.specs.Names.{machine_name, policy_name, turns_name}
 use Rattle.mips_isa.specs.Names.{kind_name}
 use Rattle.timetable.specs.Names.{end_name}
 use Rattle.report_rows.specs.Names.{count_names}
-use Rattle.report_rows.specs.Bounds.{IsHeader, IsEntry, IsItem, IsEnd, IsCount}
+use Rattle.report_rows.specs.Bounds.{IsTime, IsHeader, IsEntry, IsItem, AreTimes, IsEnd, IsCount}
 use Rattle.report_rows.specs.Rows.{text_row, number_row, bytes_row, entry_row, item_row, core_row, registers_row, memory_row, count_row_at}
+use Rattle.report_rows.specs.Rows.{timed_row, rows_of_each, timetable_rows}
 use Rattle.report_rows.specs.Rows.{header_rows, core_rows, access_count_rows, bus_count_rows, wait_count_rows}
 
 -- ---- names
@@ -136,10 +140,10 @@ registers_plain : (core first : ℕ) (regs : List ℕ) → core < 2 ^ 64 → fir
 registers_plain core first regs small early =
     (plain_by_test (codes "R") refl, (decimal_plain core small, (decimal_plain first early, words_plain (take 8 (drop first regs)))))
 
-pub core_rows_plain : (core budget : ℕ) (ended : EndValue) → core < 2 ^ 64 → budget < 2 ^ 64 → IsEnd budget ended
+pub core_rows_plain : (core budget most : ℕ) (ended : EndValue) → core < 2 ^ 64 → budget < 2 ^ 64 → IsEnd budget most ended
     → AllByRecursion IsPlainRow (core_rows core ended)
 unfolding core_rows
-core_rows_plain core budget ended small few is =
+core_rows_plain core budget most ended small few is =
     let row : IsPlainRow (core_row core ended) = (
       plain_by_test (codes "C") refl,
       (
@@ -165,6 +169,47 @@ core_rows_plain core budget ended small few is =
         ),
       ),
     )
+
+time_or_dash_plain : (x : Option ℕ) → IfSome x IsTime → IsPlain (number_or_dash x)
+time_or_dash_plain None fits = number_or_dash_plain None tt
+time_or_dash_plain (Some n) fits = number_or_dash_plain (Some n) (omega (arith, fits))
+
+timed_plain : (core n : ℕ) (row : TimeRow) → core < 2 ^ 64 → n < 2 ^ 64 → AreTimes row → IsPlainRow (timed_row core n row)
+timed_plain core n row small early are = (
+  plain_by_test (codes "T") refl,
+  (
+    decimal_plain core small,
+    (
+      decimal_plain n early,
+      (
+        decimal_plain row.i (omega (arith, are.i)),
+        (
+          decimal_plain row.f (omega (arith, are.f)),
+          (
+            decimal_plain row.d (omega (arith, are.d)),
+            (
+              decimal_plain row.e (omega (arith, are.e)),
+              (
+                time_or_dash_plain row.a are.a,
+                (decimal_plain row.m (omega (arith, are.m)), (time_or_dash_plain row.w are.w, tt)),
+              ),
+            ),
+          ),
+        ),
+      ),
+    ),
+  ),
+)
+
+timed_rows_plain : (core n : ℕ) (rows : List TimeRow) → core < 2 ^ 64 → n + length rows < 2 ^ 64 → AllByRecursion AreTimes rows
+    → AllByRecursion IsPlainRow (rows_of_each (λ n row. timed_row core n row ∷ []) n rows)
+timed_rows_plain core n [] small few are = tt
+timed_rows_plain core n (row ∷ rows) small few are =
+    (timed_plain core n row small (omega arith) are.0, timed_rows_plain core (n + 1) rows small (omega arith) are.1)
+
+pub timetable_plain : (core budget most : ℕ) (ended : EndValue) → core < 2 ^ 64 → most < 2 ^ 64 → IsEnd budget most ended
+    → AllByRecursion IsPlainRow (timetable_rows core ended.rows)
+timetable_plain core budget most ended small few is = timed_rows_plain core 0 ended.rows small (omega (arith, is.few_rows)) is.times
 
 count_at : (counts : List ℕ) → AllByRecursion IsCount counts → (k : ℕ) → IsCount (slice_index counts k)
 count_at [] are k = omega arith

@@ -28,7 +28,7 @@ use Rattle.report_row_reader.proofs.ValueLaws.{address_field, address_from_field
 -- ---- names
 
 -- a part that is this text, and what follows it
-then_name : {X : Type 0} (Fits : X → Type 0) (line : X → Row) (one : Row → Option X) (name : List ℕ) → IsRow Fits line one
+pub then_name : {X : Type 0} (Fits : X → Type 0) (line : X → Row) (one : Row → Option X) (name : List ℕ) → IsRow Fits line one
     → IsRow Fits (λ x. name ∷ line x) (λ row. field_at (exactly name) row >>= λ title. one title.1)
 then_name Fits line one name law = record {
   found = λ row x e.

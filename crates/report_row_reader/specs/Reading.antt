@@ -1,9 +1,10 @@
 -- What is read of each row of a report, from its parts.
-use Rattle.std.specs.Prelude.{ℕ, zero, suc, ◌-◌, ◌%◌, ◌^◌, ◌==◌, ◌&&◌, nat_lt, nat_le, if◌then◌else◌, Bool, List, [], ◌∷◌, codes, decimal}
+use Rattle.std.specs.Prelude.{ℕ, zero, suc, ◌+◌, ◌-◌, ◌%◌, ◌^◌, ◌==◌, ◌&&◌, nat_lt, nat_le, if◌then◌else◌, Bool, false, List, [], ◌∷◌, codes, decimal}
 use Rattle.std.specs.Prelude.{Option, Some, None}
+use Rattle.std.specs.Str.{bytes_eq}
 use Rattle.row_reader.specs.Rows.{Row}
 use Rattle.row_reader.specs.Fields.{◌>>=◌, part_at, field_at, ended}
-use Rattle.row_reader.specs.Numbers.{number_of, word_of, optional_word_of, bytes_of, exactly}
+use Rattle.row_reader.specs.Numbers.{number_of, optional_number_of, word_of, optional_word_of, bytes_of, exactly}
 use Rattle.kmp_base.specs.Names.{named, with_names, policy_name, turns_name, every_policy, every_turns}
 use Rattle.kmp_base.specs.declared.setup.Policy.{Policy}
 use Rattle.kmp_base.specs.declared.setup.Turns.{Turns}
@@ -15,6 +16,7 @@ use Rattle.timetable.specs.declared.End.{End}
 use Rattle.timetable.specs.declared.End.TheVariants as ends
 use Rattle.mips_isa.specs.Names.{kind_name}
 use Rattle.timetable.specs.Names.{end_name}
+use Rattle.timetable.specs.declared.rows.TimeRow.{TimeRow}
 use Rattle.report_rows.specs.declared.MemoryWord.{MemoryWord}
 use Rattle.report_row_reader.specs.declared.read.EndRow.{EndRow}
 
@@ -186,3 +188,56 @@ count_row_of name row = do
   key ← field_at (exactly name) title.1
   n ← field_at (number_of (2 ^ 64 - 1)) key.1
   ended n.0 n.1
+
+-- ---- timetables
+
+-- a row of a timetable, and the number of its instruction
+pub record NumberedRow : Type 0 where
+  pub n : ℕ
+  pub row : TimeRow
+
+-- rows by their instructions, from a number on
+abbrev pub numbered : ℕ → List TimeRow → List NumberedRow
+numbered n [] = []
+numbered n (row ∷ rows) = record { n = n; row = row } ∷ numbered (n + 1) rows
+
+-- the number of the instruction behind that of a row
+abbrev pub after_row : NumberedRow → ℕ
+after_row it = it.n + 1
+
+-- whether a row is one of the timetable of a core
+abbrev pub is_timed : ℕ → Row → Bool
+is_timed core [] = false
+is_timed core (title ∷ []) = false
+is_timed core (title ∷ key ∷ parts) = bytes_eq title (codes "T") && bytes_eq key (decimal core)
+
+-- the cycles of the access and of the last stages, behind those of the first stages
+unfoldable pub last_stages_of : ℕ → ℕ → ℕ → ℕ → Row → Option TimeRow
+last_stages_of i f d e row = do
+  a ← field_at (optional_number_of 100002) row
+  m ← field_at (number_of 100002) a.1
+  w ← field_at (optional_number_of 100002) m.1
+  ended (record { i = i; f = f; d = d; e = e; a = a.0; m = m.0; w = w.0 }) w.1
+
+-- the cycles of all stages
+unfoldable pub stages_of : Row → Option TimeRow
+stages_of row = do
+  i ← field_at (number_of 100002) row
+  f ← field_at (number_of 100002) i.1
+  d ← field_at (number_of 100002) f.1
+  e ← field_at (number_of 100002) d.1
+  last_stages_of i.0 f.0 d.0 e.0 e.1
+
+-- the row of instruction n, behind its name and its core, in a timetable of so many rows at most
+unfoldable pub numbered_row_of : ℕ → ℕ → Row → Option NumberedRow
+numbered_row_of most n row = do
+  nth ← field_at (exactly (decimal n)) row
+  stages ← stages_of nth.1
+  if nat_lt n most then Some (record { n = n; row = stages }) else None
+
+-- the row of instruction n of a core
+unfoldable pub timed_row_of : ℕ → ℕ → ℕ → Row → Option NumberedRow
+timed_row_of most core n row = do
+  title ← field_at (exactly (codes "T")) row
+  key ← field_at (exactly (decimal core)) title.1
+  numbered_row_of most n key.1

@@ -2,13 +2,14 @@
 ghost use Rattle.std.specs.Prelude.{◌≡◌, ◌≤◌, ◌<◌, ◌^◌, ◌*◌, decimal, IfSome};
 ghost use Rattle.std.specs.Option.{option_copied};
 ghost use Rattle.row_reader.specs.Fields.{Finds, parts_left, field_at};
-ghost use Rattle.row_reader.specs.Numbers.{exactly};
+ghost use Rattle.row_reader.specs.Numbers.{number_of, optional_number_of, exactly};
 ghost use Rattle.report_row_reader.specs.Reading.{policy_of, turns_of, kind_of, end_of, number_from, sets_of, address_of, address_from, some_word_of};
 
 use itoa::Buffer;
 use kmp_base::{MOST_SETS, Policy, Turns, named};
 use mips_isa::{Kind, Stop};
-use row_reader::{Parts, name, number_of, word_of};
+use report_rows::MOST_TIME;
+use row_reader::{Parts, name, number_of, optional_number_of, word_of};
 use timetable::End;
 
 #[tactic(auto, unfolding(crate::specs::Reading::policy_of))]
@@ -48,6 +49,24 @@ pub(crate) fn end_of(text: &[u8]) -> Option<End>
         End::Spent,
     ];
     named(&ends.map(|end| (end.name(), end)), text)
+}
+
+/// A number of instructions, or of a cycle.
+pub(crate) fn time_of(text: &[u8]) -> Option<u32>
+    ensures { result ≡ number_of 100002 text.now }
+{
+    let n = number_of(text, u64::from(MOST_TIME))?;
+    Some(n as u32)
+}
+
+/// A number of a cycle, or `-` for none.
+pub(crate) fn optional_time_of(text: &[u8]) -> Option<Option<u32>>
+    ensures { result ≡ optional_number_of 100002 text.now }
+{
+    match optional_number_of(text, u64::from(MOST_TIME))? {
+        Some(n) => Some(Some(n as u32)),
+        None => Some(None),
+    }
 }
 
 #[tactic(auto, unfolding(crate::specs::Reading::number_from))]

@@ -1,22 +1,22 @@
 //! What a row of a report says, read from its text.
-ghost use Rattle.std.specs.Prelude.{◌≡◌, ◌+◌, ◌<◌, ◌≤◌, [], ◌∷◌, ℕ, List, Option, length, codes, IfSome, Some, None};
+ghost use Rattle.std.specs.Prelude.{◌≡◌, ◌+◌, ◌<◌, ◌≤◌, [], ◌∷◌, ℕ, List, Option, false, length, codes, decimal, IfSome, IfNone, Some, None};
+ghost use Rattle.row_reader.specs.Rows.{rows_of, first_passes};
 ghost use Rattle.std.specs.Option.{option_copied};
 ghost use Rattle.row_reader.specs.Fields.{Finds, parts_of, parts_left};
-ghost use Rattle.report_row_reader.specs.Reading.{fixed_of, text_behind, number_row_of, sets_row_of, policy_row_of, turns_row_of, bytes_row_of, entry_row_of, entry_access_of, entry_words_of, end_row_of, end_numbers_of, words_of, registers_row_of, memory_row_of, count_row_of};
+ghost use Rattle.report_row_reader.specs.Reading.{fixed_of, text_behind, number_row_of, sets_row_of, policy_row_of, turns_row_of, bytes_row_of, entry_row_of, entry_access_of, entry_words_of, end_row_of, end_numbers_of, words_of, registers_row_of, memory_row_of, count_row_of, is_timed, last_stages_of, stages_of, numbered_row_of};
 
 use crate::fields::{
-    address_from, address_of, end_of, kind_of, number_from, number_name, policy_of, sets_of,
-    some_word_of, turns_of,
+    address_from, address_of, end_of, kind_of, number_from, number_name, optional_time_of,
+    policy_of, sets_of, some_word_of, time_of, turns_of,
 };
 use access_log::Entry;
-use kmp_base::{MOST_BUDGET, Policy, Turns};
+use kmp_base::{Policy, Turns};
 use mips_isa::Kind;
 use report_rows::MemoryWord;
-use row_reader::{Parts, bytes_of, ended, field, name, number, optional_word, part, word};
-use timetable::End;
-
-/// More than any number of instructions or cycles, which a budget bounds.
-const MOST_TIME: u64 = MOST_BUDGET as u64 + 2;
+use row_reader::{
+    Parts, bytes_of, ended, field, name, named_row, number, optional_word, part, word,
+};
+use timetable::{End, TimeRow};
 
 /// How a core ended, without its registers.
 #[derive(Clone, Copy)]
@@ -138,8 +138,8 @@ pub fn entry_row(parts: Parts, cores: u32, bytes: u32) -> Option<Entry>
     ensures read { result ≡ entry_row_of cores bytes (codes "A" ∷ parts_left (option_copied parts.entry)) }
 {
     let (core, rest) = number(parts, u64::from(cores - 1))?;
-    let (nth, rest) = number(rest, MOST_TIME)?;
-    entry_access(rest, bytes, core as u32, nth as u32)
+    let (nth, rest) = field(rest, time_of)?;
+    entry_access(rest, bytes, core as u32, nth)
 }
 
 /// The cycles, the instructions and the counters of a core, behind how it ended.
@@ -148,13 +148,13 @@ fn end_numbers(rest: Parts, budget: u32, end: End) -> Option<EndRow>
     ensures { result ≡ end_numbers_of budget end (parts_left (option_copied rest.entry)) }
 {
     let (cycles, rest) = number(rest, u64::from(budget))?;
-    let (retired, rest) = number(rest, MOST_TIME)?;
+    let (retired, rest) = field(rest, time_of)?;
     let (pc, rest) = word(rest)?;
     let (dpc, rest) = word(rest)?;
     let told = EndRow {
         end,
         cycles: cycles as u32,
-        retired: retired as u32,
+        retired,
         pc,
         dpc,
     };
@@ -207,6 +207,62 @@ pub fn memory_row(parts: Parts, bytes: u32, low: u32) -> Option<MemoryWord>
     let (addr, rest) = field(parts, |text| address_from(text, bytes, low))?;
     let (value, rest) = field(rest, some_word_of)?;
     ended(MemoryWord { addr, value }, rest)
+}
+
+/// What stands behind the name and the core in the first row, and the text behind the row. None where no whole row of this
+/// core's timetable comes next.
+pub fn timed_parts(text: &[u8], core: u32) -> Option<(Parts<'_>, &[u8])>
+    ensures none { IfNone result (first_passes (is_timed core) (rows_of text.now) ≡ false) }
+    ensures some { IfSome result (λ cut.
+        rows_of text.now ≡ (codes "T" ∷ decimal core ∷ parts_left (option_copied cut.0)) ∷ rows_of cut.1.now) }
+    ensures shorter { IfSome result (λ cut. length cut.1.now < length text.now) }
+{
+    let (parts, behind) = named_row(text, b"T")?;
+    let (_, stages) = number_name(parts, u64::from(core))?;
+    Some((stages, behind))
+}
+
+/// The access and the last stages of an instruction, behind its first stages.
+#[tactic(auto, unfolding(crate::specs::Reading::last_stages_of))]
+fn last_stages(rest: Parts, i: u32, f: u32, d: u32, e: u32) -> Option<TimeRow>
+    ensures { result ≡ last_stages_of i f d e (parts_left (option_copied rest.entry)) }
+{
+    let (a, rest) = field(rest, optional_time_of)?;
+    let (m, rest) = field(rest, time_of)?;
+    let (w, rest) = field(rest, optional_time_of)?;
+    let row = TimeRow {
+        i,
+        f,
+        d,
+        e,
+        a,
+        m,
+        w,
+    };
+    ended(row, rest)
+}
+
+/// The stages of an instruction.
+#[tactic(auto, unfolding(crate::specs::Reading::stages_of))]
+fn stages(rest: Parts) -> Option<TimeRow>
+    ensures { result ≡ stages_of (parts_left (option_copied rest.entry)) }
+{
+    let (i, rest) = field(rest, time_of)?;
+    let (f, rest) = field(rest, time_of)?;
+    let (d, rest) = field(rest, time_of)?;
+    let (e, rest) = field(rest, time_of)?;
+    last_stages(rest, i, f, d, e)
+}
+
+/// The row of instruction `n` in a timetable of at most `most` rows, by what stands behind its name and its core.
+#[tactic(auto, unfolding(row_reader::specs::Numbers::exactly, crate::specs::Reading::numbered_row_of))]
+pub fn timed_row(parts: Parts, n: u32, most: u32) -> Option<TimeRow>
+    ensures read { Finds (λ row. record { n = n; row = row }) result (numbered_row_of most n (parts_left (option_copied parts.entry))) }
+    ensures few { IfSome result (λ row. n < most) }
+{
+    let (_, rest) = number_name(parts, u64::from(n))?;
+    let row = stages(rest)?;
+    if n < most { Some(row) } else { None }
 }
 
 /// The count of a name.

@@ -2,12 +2,14 @@
 use Rattle.std.specs.Prelude.{◌≡◌, ◌≢◌, ℕ, ◌+◌, ◌%◌, ◌^◌, ◌<◌, ◌≤◌, List, [], ◌∷◌, length, IfSome}
 use Rattle.std.specs.List.{AllByRecursion}
 use Rattle.kmp_base.specs.declared.setup.Setup.{Setup}
+use Rattle.kmp_base.specs.declared.setup.MachineKind.{MachineKind}
 use Rattle.kmp_base.specs.declared.setup.MachineKind.TheVariants.{Plain}
 use Rattle.kmp_base.specs.Limits.{IsWithinLimits}
 use Rattle.mips_isa.specs.declared.Kind.TheVariants.{Fetch}
 use Rattle.access_log.specs.declared.Entry.{Entry}
 use Rattle.access_log.specs.declared.Item.{Item}
 use Rattle.access_log.specs.declared.Item.TheVariants.{Done, Bus}
+use Rattle.timetable.specs.declared.rows.TimeRow.{TimeRow}
 use Rattle.report_rows.specs.declared.MemoryWord.{MemoryWord}
 use Rattle.report_rows.specs.Ends.{EndValue}
 
@@ -47,15 +49,31 @@ abbrev pub IsItem : ℕ → ℕ → Item → Type 0
 IsItem cores bytes (Done entry) = IsEntry cores bytes entry
 IsItem cores bytes (Bus transaction) = ⊥
 
--- The end of a core within its budget. An unpipelined core has no timetable.
-pub record IsEnd (budget : ℕ) (ended : EndValue) : Type 0 where
+-- How many rows the timetable of a core may have, by the machine: an unpipelined core has none.
+abbrev pub most_rows : MachineKind → ℕ
+most_rows Plain = 0
+most_rows machine = 100002
+
+-- The cycles in which an instruction passed the stages of a pipeline.
+pub record AreTimes (row : TimeRow) : Type 0 where
+  pub i : IsTime row.i
+  pub f : IsTime row.f
+  pub d : IsTime row.d
+  pub e : IsTime row.e
+  pub a : IfSome row.a IsTime
+  pub m : IsTime row.m
+  pub w : IfSome row.w IsTime
+
+-- The end of a core within its budget, with so many rows of a timetable at most.
+pub record IsEnd (budget most : ℕ) (ended : EndValue) : Type 0 where
   pub cycles : ended.cycles ≤ budget
   pub retired : IsTime ended.retired
   pub pc : IsWord ended.state.pc
   pub dpc : IsWord ended.state.dpc
   pub registers : length ended.state.regs ≡ 32
   pub words : AllByRecursion IsWord ended.state.regs
-  pub no_rows : ended.rows ≡ []
+  pub few_rows : length ended.rows ≤ most
+  pub times : AllByRecursion AreTimes ended.rows
 
 -- A memory word at an address from `low` on, that isn't 0.
 pub record IsMemoryWord (bytes low : ℕ) (word : MemoryWord) : Type 0 where

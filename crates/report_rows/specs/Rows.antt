@@ -1,5 +1,5 @@
 -- The rows of a report, each as the list of its parts.
-use Rattle.std.specs.Prelude.{ℕ, ◌*◌, List, [], ◌∷◌, take, drop, map, codes, decimal, slice_index, slice_index_or, Option, Some, None}
+use Rattle.std.specs.Prelude.{ℕ, ◌*◌, List, [], ◌∷◌, ◌+◌, ◌++◌, take, drop, map, codes, decimal, slice_index, slice_index_or}
 use Rattle.std.specs.List.{range_with_len}
 use Rattle.hex.specs.Hex.{encode_lower}
 use Rattle.kmp_base.specs.Text.{hex8, hex4}
@@ -10,17 +10,13 @@ use Rattle.access_log.specs.declared.Entry.{Entry}
 use Rattle.access_log.specs.declared.Transaction.{Transaction}
 use Rattle.access_log.specs.declared.Item.{Item}
 use Rattle.access_log.specs.declared.Item.TheVariants.{Done, Bus}
-use Rattle.row_reader.specs.Numbers.{word_or_dash}
+use Rattle.row_reader.specs.Numbers.{word_or_dash, number_or_dash}
 use Rattle.report_rows.specs.declared.MemoryWord.{MemoryWord}
 use Rattle.report_rows.specs.Ends.{EndValue}
 use Rattle.mips_isa.specs.Names.{kind_name}
 use Rattle.timetable.specs.Names.{end_name}
+use Rattle.timetable.specs.declared.rows.TimeRow.{TimeRow}
 use Rattle.report_rows.specs.Names.{bit_name, count_names}
-
--- a number, or `-` for none
-abbrev pub number_or_dash : Option ℕ → List ℕ
-number_or_dash None = codes "-"
-number_or_dash (Some n) = decimal n
 
 -- a name and a word
 abbrev pub text_row : List ℕ → List ℕ → List (List ℕ)
@@ -68,11 +64,26 @@ registers_row core first regs = codes "R" ∷ decimal core ∷ decimal first ∷
 abbrev pub memory_row : MemoryWord → List (List ℕ)
 memory_row word = codes "W" ∷ hex8 word.addr ∷ hex8 word.value ∷ []
 
+-- the cycles in which an instruction passed the stages of a pipeline
+abbrev pub stage_parts : TimeRow → List (List ℕ)
+stage_parts row =
+    decimal row.i ∷ decimal row.f ∷ decimal row.d ∷ decimal row.e
+    ∷ number_or_dash row.a ∷ decimal row.m ∷ number_or_dash row.w ∷ []
+
+-- the row of instruction n in the timetable of a core
+abbrev pub timed_row : ℕ → ℕ → TimeRow → List (List ℕ)
+timed_row core n row = codes "T" ∷ decimal core ∷ decimal n ∷ stage_parts row
+
 -- a count
 abbrev pub count_row : List ℕ → ℕ → List (List ℕ)
 count_row name n = codes "N" ∷ name ∷ decimal n ∷ []
 
 -- ---- rows that stand together
+
+-- the rows of each thing by its number, from a number on
+abbrev pub rows_of_each : {X : Type 0} → (ℕ → X → List (List (List ℕ))) → ℕ → List X → List (List (List ℕ))
+rows_of_each rows_at n [] = []
+rows_of_each rows_at n (x ∷ xs) = rows_at n x ++ rows_of_each rows_at (n + 1) xs
 
 -- what was asked for
 unfoldable pub header_rows : Setup → List (List (List ℕ))
@@ -97,6 +108,10 @@ core_rows core ended =
     ∷ registers_row core 16 ended.state.regs
     ∷ registers_row core 24 ended.state.regs
     ∷ []
+
+-- the timetable of a core, from its instruction 0 on
+abbrev pub timetable_rows : ℕ → List TimeRow → List (List (List ℕ))
+timetable_rows core rows = rows_of_each (λ n row. timed_row core n row ∷ []) 0 rows
 
 -- the row of the count at an index
 abbrev pub count_row_at : List ℕ → ℕ → List (List ℕ)

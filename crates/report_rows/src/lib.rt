@@ -3,6 +3,9 @@
 
 ghost use Rattle.std.specs.Prelude.{◌≡◌, ◌<◌, ◌≤◌, [], length, slice_index_or};
 ghost use Rattle.report_rows.specs.Names.{count_names};
+ghost use Rattle.report_rows.specs.Bounds.{most_rows};
+
+use kmp_base::{MOST_BUDGET, MachineKind};
 
 /// A word of memory, and the address of its first byte.
 #[derive(Clone, Copy, Debug, PartialEq, Eq)]
@@ -15,6 +18,19 @@ pub struct MemoryWord {
 #[derive(Clone, Copy)]
 pub struct Counts {
     pub values: [u64; 13],
+}
+
+/// More than any number of instructions or cycles, which a budget bounds.
+pub const MOST_TIME: u32 = MOST_BUDGET + 2;
+
+/// How many rows the timetable of a core may have: an unpipelined core has none.
+pub fn most_rows(machine: MachineKind) -> u32
+    ensures most { result ≡ most_rows machine }
+{
+    match machine {
+        MachineKind::Plain => 0,
+        MachineKind::Pipe | MachineKind::Full => MOST_TIME,
+    }
 }
 
 /// The names of the counts, in the order of their rows.

@@ -5,7 +5,7 @@ use Rattle.kmp_base.specs.Rows.{text_of}
 use Rattle.image_file.specs.Value.{ImageValue, image_bytes}
 use Rattle.report_rows.specs.Ends.{EndValue}
 use Rattle.report_rows.specs.Rows.{number_row, bytes_row_at, item_row, memory_row, header_rows, core_rows, access_count_rows}
-use Rattle.report_rows.specs.Rows.{bus_count_rows, wait_count_rows}
+use Rattle.report_rows.specs.Rows.{bus_count_rows, wait_count_rows, rows_of_each, timetable_rows}
 use Rattle.report_text.specs.Report.{ReportValue}
 
 -- the number of the image's bytes, and the bytes, 32 in a row
@@ -14,10 +14,13 @@ image_rows image =
     let bytes = image_bytes image in
     number_row (codes "image") (length bytes) ∷ map (bytes_row_at bytes) (range_with_len 0 ((length bytes + 31) / 32))
 
--- the cores from a number on
+-- the ends of the cores from a number on
 abbrev pub rows_of_cores : ℕ → List EndValue → List (List (List ℕ))
-rows_of_cores core [] = []
-rows_of_cores core (ended ∷ more) = core_rows core ended ++ rows_of_cores (core + 1) more
+rows_of_cores core ends = rows_of_each core_rows core ends
+
+-- their timetables
+abbrev pub rows_of_timetables : ℕ → List EndValue → List (List (List ℕ))
+rows_of_timetables core ends = rows_of_each (λ number ended. timetable_rows number ended.rows) core ends
 
 abbrev pub count_rows : List ℕ → List (List (List ℕ))
 count_rows counts = access_count_rows counts ++ bus_count_rows counts ++ wait_count_rows counts
@@ -28,7 +31,8 @@ run_rows report = header_rows report.setup ++ image_rows report.image ++ map ite
 
 -- how it ended
 abbrev pub outcome_rows : ReportValue → List (List (List ℕ))
-outcome_rows report = rows_of_cores 0 report.cores ++ map memory_row report.words ++ count_rows report.counts
+outcome_rows report =
+    rows_of_cores 0 report.cores ++ map memory_row report.words ++ rows_of_timetables 0 report.cores ++ count_rows report.counts
 
 -- all rows of a report
 unfoldable pub report_rows : ReportValue → List (List (List ℕ))

@@ -3,6 +3,7 @@ use Rattle.std.proofs.Common.{◌≡◌, List, [], ◌∷◌, Option, Some, None
 use Rattle.std.specs.Prelude.{IfSome, MatchOption}
 use Rattle.std.proofs.lemmas.Option.{some_pair_parts}
 pub use Rattle.std.proofs.lemmas.Option.{same_Some as some_is}
+use Rattle.std_laws.proofs.OptionLaws.{none_from_no_some}
 use Rattle.row_reader.specs.Rows.{Row}
 use Rattle.row_reader.specs.Fields.{◌>>=◌, with_rest, field_at, ended}
 use Rattle.row_reader.proofs.PartLaws.{IsRow}
@@ -22,14 +23,10 @@ pub field_is : {X : Type 0} (Fits : X → Type 0) (spell : X → List ℕ) (one 
     → (text : List ℕ) (x : X) → Fits x → text ≡ spell x → one text ≡ Some x
 field_is Fits spell one law text x fits is = ap one is ∙ law.again x fits
 
-none_or : {X : Type 0} (o : Option X) → ((x : X) → o ≡ Some x → ⊥) → o ≡ None
-none_or (Some x) h = absurd (h x refl)
-none_or None h = refl
-
 -- a text that spells no value is read as none
 pub field_none : {X : Type 0} (Fits : X → Type 0) (spell : X → List ℕ) (one : List ℕ → Option X) → IsField Fits spell one
     → (text : List ℕ) → ((x : X) → Fits x → text ≡ spell x → ⊥) → one text ≡ None
-field_none Fits spell one law text other = none_or (one text) (λ x e. let f = law.found text x e in other x f.0 f.1)
+field_none Fits spell one law text other = none_from_no_some (one text) (λ x e. let f = law.found text x e in other x f.0 f.1)
 
 -- a function that finds the value of each spelling, and no other, reads what the field does
 pub field_match : {X : Type 0} (Fits : X → Type 0) (spell : X → List ℕ) (one : List ℕ → Option X) → IsField Fits spell one

@@ -1,5 +1,6 @@
 pub mod PartLaws
 pub mod ManyLaws
+pub mod EachManyLaws
 pub mod FieldLaws
 pub mod LoopLaws
 pub mod NumberLaws

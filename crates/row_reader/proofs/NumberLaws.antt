@@ -6,24 +6,22 @@ use Rattle.std.specs.List.{AllByRecursion}
 use Rattle.std.specs.Option.{option_map}
 use Rattle.std.specs.Int.{w32, to_be_bytes, from_be_bytes}
 use Rattle.std.specs.Str.{bytes_eq}
-use Rattle.std.specs.Str.Parse.{digits_value}
+use Rattle.std.specs.Str.Parse.{AllDigits, digits_value}
 use Rattle.std.proofs.lemmas.Slice.Eq.{bytes_eq-Decides}
 use Rattle.std.proofs.lemmas.Option.{cond_some}
 use Rattle.std.proofs.lemmas.Fmt.{decimal_is_IsNumeral}
+use Rattle.std.proofs.lemmas.Str.Parse.{digit_from_value}
 use Rattle.std.proofs.lemmas.Bool.{and_from, and_parts, leb-true, le-leb, false_from_ne_true}
 use Rattle.std.proofs.lemmas.Nat.{be_bytes_4, from_be_bytes-to_be_bytes_4}
+use Rattle.std.proofs.lemmas.Bool.{cond-true}
 use Rattle.hex.specs.Hex.{IsBytes, encode_lower, decode_sized, lower_digits}
 use Rattle.hex.specs.declared.error.FromHexError.{FromHexError}
 use Rattle.hex.proofs.HexLemmas.{decode_of-ok, decode_sized-ok, decode_sized-twice, decode_sized-encode_lower, length-encode_with}
 use Rattle.kmp_base.specs.Text.{hex8}
-use Rattle.row_reader.specs.Numbers.{if_spelled, number_of, AreBytes, if_bytes, bytes_of, word_of, dash, word_or_dash, optional_word_of}
-use Rattle.row_reader.specs.Numbers.{exactly}
+use Rattle.row_reader.specs.Numbers.{if_spelled, number_of, AreBytes, if_bytes, bytes_of, word_of, exactly, dash, or_dash, optional_of}
+use Rattle.row_reader.specs.Numbers.{word_or_dash, optional_word_of, number_or_dash, optional_number_of}
 use Rattle.row_reader.specs.Fields.{◌>>=◌}
 use Rattle.row_reader.proofs.FieldLaws.{IsField, some_is, bind_some}
-
-some_if : {X : Type 0} (b : Bool) (x : X) → b ≡ true → cond b (Some x) None ≡ Some x
-some_if true x e = refl
-some_if false x e = absurd cc
 
 -- ---- decimal numbers
 
@@ -36,7 +34,8 @@ number_found limit text n e =
 
 spelled_again : (limit n k : ℕ) → n ≤ limit → k ≡ n → if_spelled limit (decimal n) k ≡ Some n
 spelled_again limit n k le is =
-    ap (if_spelled limit (decimal n)) is ∙ some_if _ n (and_from _ _ (le-leb n limit le) ((bytes_eq-Decides (decimal n) (decimal n)).1 refl))
+    ap (if_spelled limit (decimal n)) is
+    ∙ cond-true _ (Some n) None (and_from _ _ (le-leb n limit le) ((bytes_eq-Decides (decimal n) (decimal n)).1 refl))
 
 pub number_again : (limit n : ℕ) → limit < 2 ^ 64 → n ≤ limit → number_of limit (decimal n) ≡ Some n
 unfolding number_of
@@ -82,7 +81,7 @@ pub bytes_again : (size : ℕ) (bytes : List ℕ) → AreBytes size bytes → by
 unfolding bytes_of
 bytes_again size bytes are =
     ap (if_bytes (encode_lower bytes)) (decode_sized-encode_lower bytes size are.0 (each_byte bytes are.1))
-    ∙ some_if _ bytes ((bytes_eq-Decides (encode_lower bytes) (encode_lower bytes)).1 refl)
+    ∙ cond-true _ (Some bytes) None ((bytes_eq-Decides (encode_lower bytes) (encode_lower bytes)).1 refl)
 
 pub bytes_field : (size : ℕ) → IsField (AreBytes size) encode_lower (bytes_of size)
 bytes_field size = record { found = bytes_found size; again = bytes_again size }
@@ -128,25 +127,36 @@ word_again n small =
 pub word_field : IsField (λ n. n < 2 ^ 32) hex8 word_of
 word_field = record { found = word_found; again = word_again }
 
--- ---- a word or none
+-- ---- a value or none
 
-abbrev optional_chosen : Bool → Option ℕ → Option (Option ℕ)
-optional_chosen b o = cond b (Some None) (option_map Some o)
+module _ {X : Type 0} (Fits : X → Type 0) (spell : X → List ℕ) (one : List ℕ → Option X) (law : IsField Fits spell one) where
+  abbrev optional_chosen : Bool → Option X → Option (Option X)
+  optional_chosen b o = cond b (Some None) (option_map (λ x. Some x) o)
 
-option_word_found : (text : List ℕ) (o : Option ℕ) (x : Option ℕ) → word_of text ≡ o → option_map (λ n. Some n) o ≡ Some x → IfSome x IsWord
-    × (text ≡ word_or_dash x)
-option_word_found text (Some n) x is e =
-    subst (λ y. IfSome y IsWord × (text ≡ word_or_dash y)) (some_is (Some n) x e) (word_found text n is)
-option_word_found text None x is e = absurd cc
+  abbrev IsOptional : List ℕ → Option X → Type 0
+  IsOptional text x = IfSome x Fits × (text ≡ or_dash spell x)
 
-optional_found' : (text : List ℕ) (b : Bool) (x : Option ℕ) → bytes_eq text dash ≡ b → optional_chosen b (word_of text) ≡ Some x
-    → IfSome x IsWord × (text ≡ word_or_dash x)
-optional_found' text true x is e = subst (λ y. IfSome y IsWord × (text ≡ word_or_dash y)) (some_is None x e) (tt, (bytes_eq-Decides text dash).0 is)
-optional_found' text false x is e = option_word_found text (word_of text) x refl e
+  some_found : (text : List ℕ) (o : Option X) (x : Option X) → one text ≡ o → option_map (λ y. Some y) o ≡ Some x → IsOptional text x
+  some_found text (Some y) x is e = subst (IsOptional text) (some_is (Some y) x e) (law.found text y is)
+  some_found text None x is e = absurd cc
 
-pub optional_found : (text : List ℕ) (x : Option ℕ) → optional_word_of text ≡ Some x → IfSome x IsWord × (text ≡ word_or_dash x)
-unfolding optional_word_of
-optional_found text x e = optional_found' text (bytes_eq text dash) x refl e
+  optional_found : (text : List ℕ) (b : Bool) (x : Option X) → bytes_eq text dash ≡ b → optional_chosen b (one text) ≡ Some x
+      → IsOptional text x
+  optional_found text true x is e = subst (IsOptional text) (some_is None x e) (tt, (bytes_eq-Decides text dash).0 is)
+  optional_found text false x is e = some_found text (one text) x refl e
+
+  optional_again : ((x : X) → Fits x → bytes_eq (spell x) dash ≡ false) → (x : Option X) → IfSome x Fits
+      → optional_of one (or_dash spell x) ≡ Some x
+  optional_again apart None fits = refl
+  optional_again apart (Some x) fits =
+      ap (λ b. optional_chosen b (one (spell x))) (apart x fits) ∙ ap (option_map (λ y. Some y)) (law.again x fits)
+
+  -- a field, or `-` where it spells no value so
+  optional_field_of : ((x : X) → Fits x → bytes_eq (spell x) dash ≡ false) → IsField (λ x. IfSome x Fits) (or_dash spell) (optional_of one)
+  optional_field_of apart = record {
+    found = λ text x e. optional_found text (bytes_eq text dash) x refl e;
+    again = optional_again apart;
+  }
 
 -- the text of a word isn't a dash
 word_not_dash : (n : ℕ) → bytes_eq (hex8 n) dash ≡ false
@@ -155,14 +165,22 @@ word_not_dash n = false_from_ne_true _ (λ e.
     let short : length (hex8 n) ≡ 1 = ap length ((bytes_eq-Decides (hex8 n) dash).0 e) in
     absurd (omega arith))
 
-pub optional_again : (x : Option ℕ) → IfSome x IsWord → optional_word_of (word_or_dash x) ≡ Some x
-unfolding optional_word_of
-optional_again None fits = refl
-optional_again (Some n) fits = ap (λ b. optional_chosen b (word_of (hex8 n))) (word_not_dash n)
-    ∙ ap (option_map (λ m. Some m)) (word_again n fits)
-
 pub optional_field : IsField (λ x. IfSome x IsWord) word_or_dash optional_word_of
-optional_field = record { found = optional_found; again = optional_again }
+unfolding optional_word_of
+optional_field = optional_field_of IsWord hex8 word_of word_field (λ n fits. word_not_dash n)
+
+-- that of a number begins with a digit
+number_not_dash : (n : ℕ) → n < 2 ^ 64 → bytes_eq (decimal n) dash ≡ false
+number_not_dash n small = false_from_ne_true _ (λ e.
+    let all : AllDigits 10 dash = subst (AllDigits 10) ((bytes_eq-Decides (decimal n) dash).0 e) (decimal_is_IsNumeral n small).0.1 in
+    let digit = digit_from_value 45 all.0 in
+    absurd (omega arith))
+
+pub optional_number_field : (limit : ℕ) → limit < 2 ^ 64
+    → IsField (λ x. IfSome x (λ n. n ≤ limit)) number_or_dash (optional_number_of limit)
+unfolding optional_number_of
+optional_number_field limit small =
+    optional_field_of (λ n. n ≤ limit) decimal (number_of limit) (number_field limit small) (λ n fits. number_not_dash n (omega arith))
 
 -- ---- one text
 
@@ -172,7 +190,7 @@ exactly_found name text x e = (tt, (bytes_eq-Decides text name).0 (cond_some _ t
 
 pub exactly_again : (name : List ℕ) → exactly name name ≡ Some tt
 unfolding exactly
-exactly_again name = some_if _ tt ((bytes_eq-Decides name name).1 refl)
+exactly_again name = cond-true _ (Some tt) None ((bytes_eq-Decides name name).1 refl)
 
 pub exactly_field : (name : List ℕ) → IsField (λ (x : Unit {0}). Unit {0}) (λ x. name) (exactly name)
 exactly_field name = record { found = exactly_found name; again = λ x fits. exactly_again name }
@@ -187,5 +205,5 @@ tested_field Fits spell one test law = record {
       let c = cond_some (test b.0) b.0 x b.2 in
       let f = law.found text b.0 b.1 in
       ((subst Fits c.1 f.0, ap test (sym c.1) ∙ c.0), f.1 ∙ ap spell c.1);
-  again = λ x h. ap (λ o. o >>= λ y. cond (test y) (Some y) None) (law.again x h.0) ∙ some_if (test x) x h.1;
+  again = λ x h. ap (λ o. o >>= λ y. cond (test y) (Some y) None) (law.again x h.0) ∙ cond-true (test x) (Some x) None h.1;
 }

@@ -1,7 +1,7 @@
 -- Which parts are plain: a literal by a test, and the spellings of values.
 use Rattle.std.proofs.Common.{◌≡◌, ℕ, zero, suc, ◌/◌, ◌%◌, ◌^◌, ◌<◌, Bool, true, false, ◌&&◌, List, [], ◌∷◌, Option, Some, None}
 use Rattle.std.proofs.Common.{get_or, refl, arith, decimal}
-use Rattle.std.specs.Prelude.{not}
+use Rattle.std.specs.Prelude.{not, IfSome}
 use Rattle.std.specs.Int.{w32, to_be_bytes}
 use Rattle.std.specs.Str.Parse.{AllDigits}
 use Rattle.std.proofs.lemmas.Bool.{and_parts, ne_eqb, not-true}
@@ -10,7 +10,7 @@ use Rattle.std.proofs.lemmas.Str.Parse.{digit_from_value}
 use Rattle.hex.specs.Hex.{encode_with, encode_lower, lower_digits}
 use Rattle.kmp_base.specs.Text.{hex8}
 use Rattle.row_reader.specs.Rows.{is_feed, is_blank, IsPlain}
-use Rattle.row_reader.specs.Numbers.{word_or_dash}
+use Rattle.row_reader.specs.Numbers.{dash, word_or_dash, number_or_dash}
 
 -- ---- literals
 
@@ -56,5 +56,9 @@ pub hex8_plain : (n : ℕ) → IsPlain (hex8 n)
 hex8_plain n = bytes_plain (to_be_bytes w32 n)
 
 pub word_or_dash_plain : (x : Option ℕ) → IsPlain (word_or_dash x)
-word_or_dash_plain None = plain_by_test (word_or_dash None) refl
+word_or_dash_plain None = plain_by_test dash refl
 word_or_dash_plain (Some n) = hex8_plain n
+
+pub number_or_dash_plain : (x : Option ℕ) → IfSome x (λ n. n < 2 ^ 64) → IsPlain (number_or_dash x)
+number_or_dash_plain None small = plain_by_test dash refl
+number_or_dash_plain (Some n) small = decimal_plain n small

@@ -34,18 +34,32 @@ bytes_of size text = if_bytes text (decode_sized text size)
 unfoldable pub word_of : List ℕ → Option ℕ
 word_of text = option_map (from_be_bytes w32) (bytes_of 4 text)
 
--- the text that stands for no word
+-- the text that stands for no value
 abbrev pub dash : List ℕ
 dash = codes "-"
 
--- the spelling of a word, or `-` for none
-abbrev pub word_or_dash : Option ℕ → List ℕ
-word_or_dash None = dash
-word_or_dash (Some n) = hex8 n
+-- the spelling of a value, or `-` for none
+abbrev pub or_dash : {X : Type 0} → (X → List ℕ) → Option X → List ℕ
+or_dash spell None = dash
+or_dash spell (Some x) = spell x
 
--- the word that a text spells, or none where it is `-`
+-- the value that a text spells, or none where it is `-`
+abbrev pub optional_of : {X : Type 0} → (List ℕ → Option X) → List ℕ → Option (Option X)
+optional_of one text = if bytes_eq text dash then Some None else option_map (λ x. Some x) (one text)
+
+-- a word or `-`
+abbrev pub word_or_dash : Option ℕ → List ℕ
+word_or_dash n = or_dash hex8 n
+
 unfoldable pub optional_word_of : List ℕ → Option (Option ℕ)
-optional_word_of text = if bytes_eq text dash then Some None else option_map (λ n. Some n) (word_of text)
+optional_word_of text = optional_of word_of text
+
+-- a number at most the limit, or `-`
+abbrev pub number_or_dash : Option ℕ → List ℕ
+number_or_dash n = or_dash decimal n
+
+unfoldable pub optional_number_of : ℕ → List ℕ → Option (Option ℕ)
+optional_number_of limit text = optional_of (number_of limit) text
 
 -- this text and no other
 unfoldable pub exactly : List ℕ → List ℕ → Option (Unit {0})

@@ -5,7 +5,7 @@ ghost use Rattle.std.specs.Fn.{FnReturnsAt};
 ghost use Rattle.std.specs.Option.{option_copied};
 ghost use Rattle.hex.specs.Hex.{encode_lower};
 ghost use Rattle.row_reader.specs.Fields.{Finds, parts_left, field_at, ended};
-ghost use Rattle.row_reader.specs.Numbers.{number_of, word_of, bytes_of, optional_word_of, exactly};
+ghost use Rattle.row_reader.specs.Numbers.{number_of, word_of, bytes_of, optional_word_of, optional_number_of, exactly};
 
 use crate::{Parts, part};
 use kmp_base::{decimal_of, hex8_of};
@@ -62,6 +62,18 @@ pub fn optional_word_of(text: &[u8]) -> Option<Option<u32>>
         return Some(None);
     }
     word_of(text).map(Some)
+}
+
+/// A number at most `limit`, or `-` for none.
+#[tactic(auto, unfolding(crate::specs::Numbers::optional_number_of))]
+pub fn optional_number_of(text: &[u8], limit: u64) -> Option<Option<u64>>
+    ensures found { result ≡ optional_number_of limit text.now }
+    ensures within { IfSome result (λ n. IfSome n (λ n. n ≤ limit)) }
+{
+    if text == b"-".as_slice() {
+        return Some(None);
+    }
+    number_of(text, limit).map(Some)
 }
 
 /// The value that `read` gives of the next part, and what is left behind it.

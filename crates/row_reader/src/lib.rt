@@ -8,6 +8,7 @@
 //! - `proofs/FieldLaws`: fields one after another in a row.
 //! - `proofs/PartLaws`: a part of one row, and a part with what follows it.
 //! - `proofs/ManyLaws`: a part that comes many times, and one that comes once for each of a list.
+//! - `proofs/EachManyLaws`: a part that comes many times for each of some keys.
 //! - `proofs/LoopLaws`: reading rows one after another, as a loop does.
 #![tactic(auto)]
 
@@ -15,6 +16,7 @@ mod fields;
 mod rows;
 
 pub use fields::{
-    bytes_of, ended, field, name, number, number_of, optional_word, optional_word_of, word, word_of,
+    bytes_of, ended, field, name, number, number_of, optional_number_of, optional_word,
+    optional_word_of, word, word_of,
 };
 pub use rows::{Parts, Stuck, cut_row, named_row, part, row_count};

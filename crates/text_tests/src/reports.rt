@@ -1,11 +1,15 @@
-//! Reports that no run of the program makes: one of no core, and one of a bus.
+//! Reports that no run of the program makes: one of no core, one of a bus, and one of timetables.
+ghost use Rattle.std.specs.Prelude.{◌≤◌, length};
+
 use access_log::{History, Item, Letter, Transaction};
 use image_file::read_image;
 use kmp_base::{Collected, MachineKind, MemorySink, Policy, Setup, Turns};
+use mips_isa::{CoreState, Stop};
 use report_print::print_report;
-use report_text::{Counts, NoMemory, Report};
+use report_text::{Counts, MemoryWord, NoMemory, Report};
 use std::alloc::Global;
 use std::test::Fail;
+use timetable::{CoreEnd, End, Rows, TimeRow};
 
 /// The image of `halt` in a memory of sixteen bytes.
 const HALT: [u8; 24] = *b"KMP1\x02\0\0\0\x02\0\0\0\0\0\0\0\x0d\0\0\0\0\0\0\0";
@@ -34,7 +38,7 @@ fn report(alloc: Global, history: History) -> Result<Report, Fail> {
 /// Whether all of a report is put into a sink that fails at a call, and what it has then.
 fn put_until(alloc: Global, report: &Report, call: u32) -> Result<(bool, Vec<u8>), NoMemory> {
     let calls = Vec::from_slice(alloc, &[call])?;
-    let mut sink = MemorySink::new(alloc, 1024, calls)?;
+    let mut sink = MemorySink::new(alloc, 4096, calls)?;
     let is_put = print_report(report, &mut sink).is_ok();
     Ok((is_put, sink.held))
 }
@@ -69,6 +73,111 @@ fn a_report_is_collected(rt: HostRuntime) -> Result<(), Fail> {
         assert!(rt; (is_put && finished.is_ok()) == (writes <= call as usize));
         assert!(rt; whole.starts_with(&sink.held));
     }
+    Ok(())
+}
+
+/// A row of a timetable, by the first stages, the access, and the last stages.
+fn timed([i, f, d, e]: [u32; 4], a: Option<u32>, m: u32, w: Option<u32>) -> TimeRow {
+    TimeRow {
+        i,
+        f,
+        d,
+        e,
+        a,
+        m,
+        w,
+    }
+}
+
+/// How a core ended at a `halt`, with these rows of its timetable.
+fn halted(rows: Vec<TimeRow>) -> CoreEnd
+    requires few { length rows.items ≤ 8 }
+{
+    CoreEnd {
+        end: End::Stopped(Stop::Halt),
+        cycles: 9,
+        retired: 3,
+        state: CoreState {
+            pc: 16,
+            dpc: 12,
+            regs: [0; 32],
+        },
+        rows: Rows::from_vec(rows),
+    }
+}
+
+/// The report of two cores with timetables.
+const TIMED: &str = "\
+kmp-report 1
+machine pipe
+cores 2
+budget 20000
+arbitration fifo
+turns round
+seed 0
+sets 1
+ways 1
+image 24
+I 4b4d50310200000002000000000000000d00000000000000
+C 0 halt 9 3 00000010 0000000c
+R 0 0 00000000 00000000 00000000 00000000 00000000 00000000 00000000 00000000
+R 0 8 00000000 00000000 00000000 00000000 00000000 00000000 00000000 00000000
+R 0 16 00000000 00000000 00000000 00000000 00000000 00000000 00000000 00000000
+R 0 24 00000000 00000000 00000000 00000000 00000000 00000000 00000000 00000000
+C 1 halt 9 3 00000010 0000000c
+R 1 0 00000000 00000000 00000000 00000000 00000000 00000000 00000000 00000000
+R 1 8 00000000 00000000 00000000 00000000 00000000 00000000 00000000 00000000
+R 1 16 00000000 00000000 00000000 00000000 00000000 00000000 00000000 00000000
+R 1 24 00000000 00000000 00000000 00000000 00000000 00000000 00000000 00000000
+W 00000100 00000005
+T 0 0 1 1 2 3 4 4 5
+T 0 1 2 2 5 6 - 7 8
+T 0 2 3 5 6 7 - 8 9
+T 0 3 6 6 7 8 - 9 -
+T 1 0 1 1 2 3 - 4 5
+T 1 1 2 2 3 4 - 5 -
+N retired 0
+N loads 0
+N stores 0
+N cas 0
+N swapped 0
+N transactions 0
+N exclusive 0
+N owned 0
+N upgrades 0
+N flushes 0
+N wait-fetch 0
+N wait-operand 0
+N wait-access 0
+end
+";
+
+/// Timetables stand behind the memory words, those of each core from its instruction 0 on.
+#[test]
+fn timetables_have_their_rows(rt: HostRuntime) -> Result<(), Fail> {
+    let first = [
+        timed([1, 1, 2, 3], Some(4), 4, Some(5)),
+        timed([2, 2, 5, 6], None, 7, Some(8)),
+        timed([3, 5, 6, 7], None, 8, Some(9)),
+        timed([6, 6, 7, 8], None, 9, None),
+    ];
+    let second = [
+        timed([1, 1, 2, 3], None, 4, Some(5)),
+        timed([2, 2, 3, 4], None, 5, None),
+    ];
+    let mut report = report(rt.alloc(), History::new(rt.alloc(), 0)?)?;
+    report.setup.machine = MachineKind::Pipe;
+    report.setup.cores = 2;
+    report.setup.budget = 20_000;
+    report.cores.push(halted(first.to_vec(rt.alloc())?))?;
+    report.cores.push(halted(second.to_vec(rt.alloc())?))?;
+    report.words.push(MemoryWord {
+        addr: 256,
+        value: 5,
+    })?;
+    let (is_put, held) = put_until(rt.alloc(), &report, 1000)?;
+    assert!(rt; is_put);
+    assert!(rt; held.as_slice() == TIMED.as_bytes());
     Ok(())
 }
 
