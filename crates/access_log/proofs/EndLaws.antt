@@ -1,7 +1,7 @@
 -- Where each core can catch up to its count, the machine ends with these cores.
 use Rattle.std.proofs.Common.{◌≡◌, ℕ, zero, suc, ◌+◌, ◌*◌, ◌<◌, List, [], ◌∷◌, length, arith, refl, sym, ◌∙◌}
 use Rattle.std.specs.Prelude.{Some, slice_get, slice_set}
-use Rattle.std.proofs.lemmas.Option.{same_Some, slice_get_within}
+use Rattle.std.proofs.lemmas.Option.{none-some, same_Some, slice_get_within}
 use Rattle.std.proofs.lemmas.List.{length-set}
 use Rattle.std_laws.proofs.ListLaws.{slice_get-set_same, slice_get-set_other}
 use Rattle.access_log.specs.declared.Core.{Core}
@@ -58,13 +58,10 @@ ended-each code bytes index [] cores memory size ends = (
   record {
     run = refl;
     before = λ c h. refl;
-    each = λ c n core counted here. absurd (none_counted c n counted);
+    each = λ c n core counted here. absurd (none-some n counted);
     length_is = refl;
   },
 )
-  where
-    none_counted : (c n : ℕ) → slice_get {X = ℕ} [] c ≡ Some n → ⊥
-    none_counted c n h = cc
 ended-each code bytes index (n ∷ counts) cores memory size ends =
     let first = ends zero n refl in
     let core : Core = first.0 in

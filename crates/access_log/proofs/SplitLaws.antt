@@ -122,10 +122,7 @@ each_ends : (code : List ℕ) (bytes index : ℕ) (counts : List ℕ) (cores : L
     → 4 * length memory ≡ bytes
     → ended index counts (at code cores memory) ≡ Some new → EachEnds code bytes index counts cores
 unfolding ended
-each_ends code bytes index [] cores memory new size h = λ c n counted. absurd (none_counted c n counted)
-  where
-    none_counted : (c n : ℕ) → slice_get {X = ℕ} [] c ≡ Some n → ⊥
-    none_counted c n e = cc
+each_ends code bytes index [] cores memory new size h = λ c n counted. absurd (none-some n counted)
 each_ends code bytes index (n ∷ counts) cores memory new size h =
     let first = option_and_then_parts (ended (index + 1) counts) (moved index n (at code cores memory)) new h in
     let end = option_map_parts (with_core (at code cores memory) index)

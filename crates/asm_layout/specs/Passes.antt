@@ -3,10 +3,10 @@ use Rattle.std.specs.Prelude.{◌≡◌, ℕ, ◌+◌, ◌*◌, ◌^◌, Bool, n
 use Rattle.std.specs.Prelude.{Option, Some, None, is_some, min, Result, Ok, Err}
 use Rattle.std.specs.Borrow.{Bor}
 use Rattle.std.specs.BTreeMap.{BTreeMap}
+use Rattle.kmp_base.specs.declared.fault.FaultAt.{FaultAt}
+use Rattle.kmp_base.specs.declared.fault.FaultAt.TheVariants as located
 use Rattle.asm_token.specs.declared.fault.AsmCause.{AsmCause}
 use Rattle.asm_token.specs.declared.fault.AsmCause.TheVariants.{LabelTwice, LabelMissing, NoCode, TooMuch, Range}
-use Rattle.asm_token.specs.declared.fault.AsmFault.{AsmFault}
-use Rattle.asm_token.specs.declared.fault.AsmFault.TheVariants as faults
 use Rattle.asm_parse.specs.declared.statement.Body.{Body}
 use Rattle.asm_parse.specs.declared.statement.Body.TheVariants.{Label, DataAt, Word, BranchTo, JumpTo, Load}
 use Rattle.asm_parse.specs.declared.statement.Statement.{Statement}
@@ -103,11 +103,11 @@ layout_fault memory ss =
     (first_fault (operand_test (labels_of ss)) [] ss)))
 
 -- A function fails by a fault and its line, or for want of memory.
-abbrev pub FailsBy : Option (AsmCause × ℕ) → AsmFault → Type 0
-FailsBy fault faults.Memory = Unit {0}
-FailsBy fault (faults.At cause line) = fault ≡ Some (cause, line)
+abbrev pub FailsBy : Option (AsmCause × ℕ) → FaultAt AsmCause → Type 0
+FailsBy fault located.Memory = Unit {0}
+FailsBy fault (located.At cause line) = fault ≡ Some (cause, line)
 
 -- What a layout in so many bytes of memory answers: the labels, where nothing is wrong, or the first fault, or want of memory.
-abbrev pub LaysOut : ℕ → List Statement → Result (BTreeMap (Bor (List ℕ)) ℕ) AsmFault → Type 0
+abbrev pub LaysOut : ℕ → List Statement → Result (BTreeMap (Bor (List ℕ)) ℕ) (FaultAt AsmCause) → Type 0
 LaysOut memory ss (Ok labels) = (layout_fault memory ss ≡ None) × HoldsLabels labels (labels_of ss)
 LaysOut memory ss (Err error) = FailsBy (layout_fault memory ss) error

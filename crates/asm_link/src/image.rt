@@ -1,6 +1,6 @@
 //! The image of a source.
 ghost use Rattle.std.specs.Prelude.{◌≡◌, ◌*◌, ◌≤◌, length};
-ghost use Rattle.asm_token.specs.Faults.{Answers};
+ghost use Rattle.kmp_base.specs.Gives.{GivesAt};
 ghost use Rattle.asm_parse.specs.Statements.{AreProper};
 ghost use Rattle.asm_link.specs.Assembly.{image_of};
 
@@ -27,7 +27,7 @@ pub fn assemble(
     requires lines { memory_lines ≤ 2097152 }
     requires proper { AreProper statements.now }
     requires few { length statements.now ≤ MOST_STATEMENTS }
-    ensures meaning { Answers (λ image. image) result (image_of memory_lines statements.now) }
+    ensures meaning { GivesAt (λ image. image) result (image_of memory_lines statements.now) }
 {
     let labels = lay_out(alloc, statements, 8 * u64::from(memory_lines))?;
     let mut code = code_words(alloc, &labels, statements)?;

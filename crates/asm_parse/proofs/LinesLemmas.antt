@@ -2,11 +2,12 @@
 use Rattle.std.proofs.Common.{◌≡◌, ℕ, ◌+◌, ◌<◌, Bool, true, false, List, [], ◌∷◌, ◌++◌, length, map, take, drop, Result, Ok, Err, refl, sym}
 use Rattle.std.proofs.Common.{ap, ◌∙◌, arith, one-add}
 use Rattle.std.specs.List.{prefix_len, enumerate_from}
+use Rattle.kmp_base.specs.declared.fault.FaultAt.{FaultAt}
+use Rattle.kmp_base.specs.declared.fault.FaultAt.TheVariants as located
+use Rattle.kmp_base.specs.Gives.{FailsAt}
 use Rattle.kmp_base.proofs.ReadingLaws.{with_front, front_grows, all_read}
 use Rattle.asm_token.specs.declared.fault.AsmCause.{AsmCause}
-use Rattle.asm_token.specs.declared.fault.AsmFault.{AsmFault}
-use Rattle.asm_token.specs.declared.fault.AsmFault.TheVariants as errors
-use Rattle.asm_token.specs.Faults.{at_line, FailsAt}
+use Rattle.asm_token.specs.Faults.{at_line}
 use Rattle.asm_parse.specs.declared.statement.Body.{Body}
 use Rattle.asm_parse.specs.declared.statement.Part.{Part}
 use Rattle.asm_parse.specs.declared.statement.Statement.{Statement}
@@ -43,12 +44,12 @@ unfolding statements_from
 line_goes_on front number part line lines here behind read =
     rw read (front_grows front (map (on_line number) here) (statements_from behind (enumerate_from (number + 1) lines)))
 
-pub line_ends : (fault : AsmFault) (front : List Statement) (number : ℕ) (part : Part) (line : List ℕ) (lines : List (List ℕ))
+pub line_ends : (fault : FaultAt AsmCause) (front : List Statement) (number : ℕ) (part : Part) (line : List ℕ) (lines : List (List ℕ))
     (total : Result (List Statement) (AsmCause × ℕ)) → FailsAt fault (at_line number (line_of part line))
     → read_behind front number part (line ∷ lines) ≡ total → FailsAt fault total
 unfolding statements_from
-line_ends errors.Memory front number part line lines total fails so_far = tt
-line_ends (errors.At cause at) front number part line lines total fails so_far =
+line_ends located.Memory front number part line lines total fails so_far = tt
+line_ends (located.At cause at) front number part line lines total fails so_far =
     let now : read_behind front number part (line ∷ lines) ≡ Err (cause, at) = rw fails refl in
     sym so_far ∙ now
 

@@ -1,11 +1,11 @@
 -- A text that is printed is read as the statements that were printed.
-use Rattle.std.proofs.Common.{◌≡◌, ℕ, ◌+◌, ◌*◌, ◌^◌, ◌<◌, Bool, true, false, List, [], ◌∷◌, ◌++◌, Ok, refl, ap, ◌∙◌, arith}
+use Rattle.std.proofs.Common.{◌≡◌, ℕ, ◌+◌, ◌*◌, ◌^◌, ◌<◌, Bool, true, false, List, [], ◌∷◌, Ok, refl, ap, ◌∙◌, arith}
 use Rattle.std.specs.Prelude.{nat_lt}
 use Rattle.std.specs.Fmt.{digits}
-use Rattle.std.specs.List.{AllByRecursion, list_all, enumerate_from}
-use Rattle.std.proofs.lemmas.Bool.{agree_below, agree_below_at, and_parts}
+use Rattle.std.specs.List.{AllByRecursion, enumerate_from}
+use Rattle.std.proofs.lemmas.Bool.{agree_below, agree_below_at}
 use Rattle.std.proofs.lemmas.Bool.Decides.{nat_tests}
-use Rattle.std_laws.proofs.ListLaws.{list_all-weaker, list_all-from_recursion}
+use Rattle.std_laws.proofs.ListLaws.{list_all-from_recursion}
 use Rattle.mips_isa.specs.Words.{IsProper}
 use Rattle.mips_isa.specs.declared.Instr.{Instr}
 use Rattle.mips_isa.specs.declared.Instr.TheVariants as instrs
@@ -20,19 +20,19 @@ use Rattle.mips_isa.specs.declared.ZeroOp.TheVariants.{Bltz, Bgez, Blez, Bgtz}
 use Rattle.asm_token.specs.declared.token.Token.{Token}
 use Rattle.asm_token.specs.declared.token.Token.TheVariants as tokens
 use Rattle.asm_token.specs.Printing.{is_name, can_be_written, printed_line}
-use Rattle.asm_token.proofs.PrintingLaws.{is_text_byte, printed_writes, printed_bytes}
+use Rattle.asm_token.proofs.PrintingLaws.{printed_writes, printed_bytes}
 use Rattle.asm_parse.specs.declared.statement.Body.{Body}
 use Rattle.asm_parse.specs.declared.statement.Body.TheVariants.{Label, Text, Data, DataAt, Word, Space, Plain, BranchTo, JumpTo, Load}
 use Rattle.asm_parse.specs.declared.statement.Part.{Part}
 use Rattle.asm_parse.specs.declared.statement.Part.TheVariants as parts
-use Rattle.asm_parse.specs.declared.statement.Statement.{Statement}
 use Rattle.asm_parse.specs.declared.statement.Value.{Value}
 use Rattle.asm_parse.specs.declared.statement.Value.TheVariants as values
-use Rattle.asm_parse.specs.Lines.{is_within_line, lines_of, line_of, statements_from, statements_of}
+use Rattle.asm_parse.specs.Lines.{lines_of, statements_from, statements_of}
 use Rattle.asm_parse.specs.Statements.{part_moved, IsProperBody}
 use Rattle.asm_parse.specs.Printing.{shift_name, shift_by_name, alu_name, imm_name, branch_name, zero_name, jump_name, register, number}
 use Rattle.asm_parse.specs.Printing.{signed_number, immediate, value_token, branch_tokens, instr_tokens, body_tokens, IsWord, HasNumbers}
 use Rattle.asm_parse.specs.Printing.{value_named, body_named, AreWritable, printed_text, on_lines}
+use Rattle.asm_parse.proofs.LinesLaws.{line_split, statement_goes_on}
 use Rattle.asm_parse.proofs.PrintingLemmas.{statement_read}
 
 -- The tokens of a statement can be written.
@@ -159,23 +159,6 @@ body_written (Load x value) proper fits named = (refl, (register_written x prope
 
 -- Lines.
 
-text_within_line : (b : ℕ) → is_text_byte b ≡ true → is_within_line b ≡ true
-text_within_line b text = grind (arith, nat_tests)
-
-line_split : (line rest : List ℕ) → list_all is_within_line line ≡ true → lines_of (line ++ 10 ∷ rest) ≡ line ∷ lines_of rest
-unfolding lines_of
-line_split [] rest all = refl
-line_split (b ∷ line) rest all =
-    let each = and_parts (is_within_line b) (list_all is_within_line line) all in
-    rw (each.0, line_split line rest each.1) refl
-
-statement_goes_on : (part behind : Part) (number : ℕ) (line : List ℕ) (lines : List (List ℕ)) (body : Body) (others : List Statement)
-    → line_of part line ≡ Ok (body ∷ [], behind)
-    → statements_from behind (enumerate_from (number + 1) lines) ≡ Ok others
-    → statements_from part (enumerate_from number (line ∷ lines)) ≡ Ok (record { line = number; body = body } ∷ others)
-unfolding statements_from
-statement_goes_on part behind number line lines body others read rest = rw (read, rest) refl
-
 printed_from : (part : Part) (number : ℕ) (bodies : List Body) → AreWritable part bodies
     → statements_from part (enumerate_from number (lines_of (printed_text bodies))) ≡ Ok (on_lines number bodies)
 unfolding lines_of statements_from
@@ -183,11 +166,10 @@ printed_from part number [] are = refl
 printed_from part number (body ∷ bodies) are =
     let ts = body_tokens body in
     let written = list_all-from_recursion can_be_written ts (body_written body are.0 are.1 are.2) in
-    let within = list_all-weaker is_text_byte is_within_line text_within_line (printed_line ts) (printed_bytes ts written) in
     let read = statement_read part [] body (printed_line ts) are.0 are.1 are.3 (printed_writes ts written) in
     let rest = printed_from (part_moved part body) (number + 1) bodies are.4 in
     ap (λ (lines : List (List ℕ)). statements_from part (enumerate_from number lines))
-    (line_split (printed_line ts) (printed_text bodies) within)
+    (line_split (printed_line ts) (printed_text bodies) (printed_bytes ts written))
     ∙ statement_goes_on part (part_moved part body) number (printed_line ts) (lines_of (printed_text bodies)) body
     (on_lines (number + 1) bodies) read rest
 

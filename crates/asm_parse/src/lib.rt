@@ -1,4 +1,7 @@
 //! The statements of an assembler source.
+//!
+//! Laws for the crates above:
+//! - `proofs/LinesLaws`: a text line by line.
 #![tactic(auto)]
 
 mod bodies;

@@ -1,6 +1,6 @@
 //! The operands of statements.
 ghost use Rattle.std.specs.Prelude.{◌≡◌, ◌<◌, length, IfOk, IsTrue};
-ghost use Rattle.asm_token.specs.Faults.{Returns};
+ghost use Rattle.kmp_base.specs.Gives.{Returns};
 ghost use Rattle.asm_parse.specs.Bounds.{is_within};
 ghost use Rattle.asm_parse.specs.Forms.{list_of};
 ghost use Rattle.asm_parse.specs.Operands.{register_in, number_in, label_in, comma_in, open_in, close_in, end_in, value_of, place_in, offset_in, with_register, with_operand, address_in, second_register, link_in, operand_in, more_operands_in, operands_in, no_operands, AreRegisters, IsOperand};

@@ -1,7 +1,8 @@
 //! The statements of a text.
 ghost use Rattle.std.specs.Prelude.{List, ◌≡◌, ◌<◌, ◌≤◌, ◌∷◌, ◌++◌, map, length, OnOk, IfOk, IfErr};
 ghost use Rattle.std.specs.List.{prefix_len};
-ghost use Rattle.asm_token.specs.Faults.{at_line, FailsAt, Answers};
+ghost use Rattle.kmp_base.specs.Gives.{FailsAt, GivesAt};
+ghost use Rattle.asm_token.specs.Faults.{at_line};
 ghost use Rattle.asm_parse.specs.Lines.{is_within_line, lines_of, on_line, line_of, statements_of, AreRising};
 ghost use Rattle.asm_parse.specs.Statements.{IsProperBody, AreProper};
 
@@ -93,7 +94,7 @@ fn add_line<'a>(
 ///   no multiple of 4 where one is wanted, and [`AsmCause::BadOperand`] for any token but one of the kind that is wanted.
 pub fn parse(alloc: Global, text: &[u8]) -> Result<Vec<Statement<'_>>, AsmFault>
     requires size { length text.now ≤ 268435456 }
-    ensures meaning { Answers (λ v. v.items) result (statements_of text.now) }
+    ensures meaning { GivesAt (λ v. v.items) result (statements_of text.now) }
     ensures few { IfOk result (λ statements. length statements.items ≤ length text.now) }
     ensures proper { IfOk result (λ statements. AreProper statements.items) }
     ensures rising { IfOk result (λ statements. AreRising statements.items) }

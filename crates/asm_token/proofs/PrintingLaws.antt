@@ -151,6 +151,13 @@ digits_pass : (p : ℕ → Bool) (ds : List ℕ) → ((b : ℕ) → digit_value 
 digits_pass p [] implied are = refl
 digits_pass p (d ∷ ds) implied are = rw (implied d are.0) (digits_pass p ds implied are.1)
 
+digit_in_name : (b : ℕ) → digit_value b < 10 → is_name_byte b ≡ true
+digit_in_name b lt = let within = digit_within b lt in grind (arith, nat_tests)
+
+-- decimal digits can stand in a name
+pub decimal_in_name : (n : ℕ) → n < 2 ^ 64 → list_all is_name_byte (decimal n) ≡ true
+decimal_in_name n low = digits_pass is_name_byte (decimal n) digit_in_name (decimal_is_IsNumeral n low).0.1
+
 is_a_digit : (b : ℕ) → digit_value b < 10 → is_digit b 10 ≡ true
 is_a_digit b lt = grind (arith, nat_tests)
 
@@ -296,7 +303,7 @@ token_bytes (tokens.Register name) written =
 token_bytes (tokens.Number n) written = number_bytes n.negative n.magnitude written
 token_bytes mark written = refl
 
-spaced_bytes : (ts : List (Token × List ℕ)) → AreApart ts → list_all is_text_byte (spaced_text ts) ≡ true
+pub spaced_bytes : (ts : List (Token × List ℕ)) → AreApart ts → list_all is_text_byte (spaced_text ts) ≡ true
 spaced_bytes [] apart = refl
 spaced_bytes (t ∷ ts) apart =
     list_all_both is_text_byte (token_text t.0) (t.1 ++ spaced_text ts) (token_bytes t.0 apart.0)
@@ -318,6 +325,20 @@ tokens_read line ts w =
     ∙ front_taken is_before_comment (w.blanks ++ text) w.comment before (comment_stops w.comment w.behind) in
     ap (tokens_from 0) code ∙ blanks_passed w.blanks text w.front ∙ spaced_read w.spaced w.apart ∙ ap Ok w.tokens_are
 
+-- tokens with the blanks behind them are a line that writes these tokens
+pub spaced_writes : (spaced : List (Token × List ℕ)) (ts : List Token) → map (λ t. t.0) spaced ≡ ts → AreApart spaced
+    → Writes (spaced_text spaced) ts
+spaced_writes spaced ts tokens_are apart = record {
+  blanks = [];
+  spaced = spaced;
+  comment = [];
+  line_is = sym (append-nil (spaced_text spaced));
+  tokens_are = tokens_are;
+  front = refl;
+  apart = apart;
+  behind = tt;
+}
+
 -- Lines that are printed.
 
 blank_behind : (t : Token) → IsTrue (ends_before t 32)
@@ -337,16 +358,7 @@ printed_tokens [] = refl
 printed_tokens (t ∷ ts) = ap (λ (us : List Token). t ∷ us) (printed_tokens ts)
 
 pub printed_writes : (ts : List Token) → IsTrue (list_all can_be_written ts) → Writes (printed_line ts) ts
-printed_writes ts written = record {
-  blanks = [];
-  spaced = map with_blank ts;
-  comment = [];
-  line_is = sym (append-nil (printed_line ts));
-  tokens_are = printed_tokens ts;
-  front = refl;
-  apart = printed_apart ts written;
-  behind = tt;
-}
+printed_writes ts written = spaced_writes (map with_blank ts) ts (printed_tokens ts) (printed_apart ts written)
 
 pub printed_bytes : (ts : List Token) → IsTrue (list_all can_be_written ts) → list_all is_text_byte (printed_line ts) ≡ true
 printed_bytes ts written = spaced_bytes (map with_blank ts) (printed_apart ts written)

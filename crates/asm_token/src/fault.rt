@@ -2,10 +2,8 @@
 
 ghost use Rattle.std.specs.Prelude.{◌≡◌};
 ghost use Rattle.kmp_base.specs.declared.fault.Fault.TheVariants.{Cause};
-ghost use Rattle.asm_token.specs.declared.fault.AsmFault.TheVariants as errors;
 
-use kmp_base::Fault;
-use std::alloc::{AllocError, AllocFailed};
+use kmp_base::{Fault, FaultAt};
 use std::error::Error;
 use std::fmt::{self, Display, Formatter, Write};
 
@@ -63,15 +61,8 @@ impl Display for AsmCause {
 
 impl Error for AsmCause {}
 
-/// Why there is no image of a source.
-#[derive(Clone, Copy, Debug, thiserror::Error)]
-pub enum AsmFault {
-    #[error("no memory is left")]
-    Memory,
-    /// The cause, and the number of the first faulty line, or 0 where no line is at fault.
-    #[error("line {1}: {0}")]
-    At(AsmCause, u32),
-}
+/// Why there is no image of a source: the cause, and the number of the first faulty line, or 0 where no line is at fault.
+pub type AsmFault = FaultAt<AsmCause>;
 
 /// What is wrong with a line whose number isn't known.
 pub type LineFault = Fault<AsmCause>;
@@ -81,21 +72,5 @@ impl From<AsmCause> for LineFault {
 
     fn from(cause: AsmCause) -> LineFault {
         Fault::Cause(cause)
-    }
-}
-
-impl From<AllocError> for AsmFault {
-    ghost from_gives = { λ _ e. e ≡ errors.Memory };
-
-    fn from(_error: AllocError) -> AsmFault {
-        AsmFault::Memory
-    }
-}
-
-impl<T: Drop> From<AllocFailed<T>> for AsmFault {
-    ghost from_gives = { λ _ e. e ≡ errors.Memory };
-
-    fn from(_error: AllocFailed<T>) -> AsmFault {
-        AsmFault::Memory
     }
 }

@@ -1,13 +1,11 @@
 -- What bytes mean as an image, or their first fault.
-use Rattle.std.specs.Prelude.{◌≡◌, ℕ, zero, suc, ◌+◌, ◌-◌, ◌*◌, ◌%◌, ◌^◌, Bool, true, false, not, ◌==◌, ◌&&◌, ◌||◌, nat_le, if◌then◌else◌}
+use Rattle.std.specs.Prelude.{ℕ, zero, suc, ◌+◌, ◌-◌, ◌*◌, ◌%◌, ◌^◌, Bool, true, false, not, ◌==◌, ◌&&◌, ◌||◌, nat_le, if◌then◌else◌}
 use Rattle.std.specs.Prelude.{List, [], ◌∷◌, length, Result, Ok, Err, is_some}
 use Rattle.std.specs.Int.{w32, from_le_bytes}
 use Rattle.kmp_base.specs.Bind.{◌>>=◌}
 use Rattle.mips_isa.specs.Fields.{instr_of}
 use Rattle.image_file.specs.declared.fault.ImageCause.{ImageCause}
 use Rattle.image_file.specs.declared.fault.ImageCause.TheVariants.{BadMagic, Truncated, OddCode, BadWord, Overlap, DoesNotFit, Trailing}
-use Rattle.image_file.specs.declared.fault.ImageFault.{ImageFault}
-use Rattle.image_file.specs.declared.fault.ImageFault.TheVariants as faults
 use Rattle.image_file.specs.Value.{ImageValue, SegmentValue}
 
 -- A fault of a field, and how many bytes are left from its first byte on.
@@ -110,9 +108,3 @@ at_byte size (Err fault) = Err (fault.0, size - fault.1)
 -- The image that bytes spell, or their first fault.
 abbrev pub image_meaning : List ℕ → Result ImageValue Fault
 image_meaning bytes = at_byte (length bytes) (image_in bytes)
-
--- A function answers what bytes mean, unless memory ran out.
-abbrev pub Answers : Result ImageValue ImageFault → Result ImageValue Fault → Type 0
-Answers (Ok image) meaning = meaning ≡ Ok image
-Answers (Err faults.Memory) meaning = Unit {0}
-Answers (Err (faults.At cause byte)) meaning = meaning ≡ Err (cause, byte)

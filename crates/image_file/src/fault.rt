@@ -1,10 +1,6 @@
 //! What is wrong with the bytes of an image.
-ghost use Rattle.std.specs.Prelude.{◌≡◌};
-ghost use Rattle.image_file.specs.declared.fault.ImageFault.TheVariants.{Memory};
-
-use std::alloc::{AllocError, AllocFailed};
+use kmp_base::FaultAt;
 use std::fmt;
-use thiserror::Error;
 
 /// What is wrong with a field.
 #[derive(Clone, Copy, Debug, PartialEq, Eq)]
@@ -48,28 +44,5 @@ impl fmt::Display for ImageCause {
     }
 }
 
-/// Why there is no image.
-#[derive(Clone, Copy, Debug, PartialEq, Eq, Error)]
-pub enum ImageFault {
-    #[error("no memory is left")]
-    Memory,
-    /// The cause, and the first byte of the field at fault, counted from 0.
-    #[error("byte {1}: {0}")]
-    At(ImageCause, u32),
-}
-
-impl From<AllocError> for ImageFault {
-    ghost from_gives = { λ _ e. e ≡ Memory };
-
-    fn from(_error: AllocError) -> ImageFault {
-        ImageFault::Memory
-    }
-}
-
-impl<T: Drop> From<AllocFailed<T>> for ImageFault {
-    ghost from_gives = { λ _ e. e ≡ Memory };
-
-    fn from(_error: AllocFailed<T>) -> ImageFault {
-        ImageFault::Memory
-    }
-}
+/// Why there is no image: the cause, and the first byte of the field at fault, counted from 0.
+pub type ImageFault = FaultAt<ImageCause>;

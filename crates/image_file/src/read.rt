@@ -1,8 +1,8 @@
 //! The image that bytes spell.
 ghost use Rattle.std.specs.Prelude.{◌≡◌, ◌+◌, ◌*◌, ◌^◌, ◌≤◌, length, IfOk};
-ghost use Rattle.kmp_base.specs.Gives.{Gives};
+ghost use Rattle.kmp_base.specs.Gives.{Gives, GivesAt};
 ghost use Rattle.image_file.specs.Value.{image_bytes};
-ghost use Rattle.image_file.specs.Reading.{magic_in, lines_in, code_count_in, fits, segment_in, segments_in, image_in, image_meaning, Answers};
+ghost use Rattle.image_file.specs.Reading.{magic_in, lines_in, code_count_in, fits, segment_in, segments_in, image_in, image_meaning};
 
 use crate::field::{FieldFault, fault_at, number_in, words_in};
 use crate::spelling::MAGIC;
@@ -129,7 +129,7 @@ fn image_in(alloc: Global, bytes: &[u8]) -> Result<Image, FieldFault>
 /// The image that bytes spell, or the first of their fields that is at fault.
 pub fn read_image(alloc: Global, bytes: &[u8]) -> Result<Image, ImageFault>
     requires size { length bytes.now ≤ 268435456 }
-    ensures meaning { Answers result (image_meaning bytes.now) }
+    ensures meaning { GivesAt (λ image. image) result (image_meaning bytes.now) }
     ensures spelled { IfOk result (λ image. bytes.now ≡ image_bytes image) }
 {
     match image_in(alloc, bytes) {

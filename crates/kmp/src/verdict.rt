@@ -19,7 +19,7 @@ fn add_word(row: &mut Row, addr: u32, value: u32)
 }
 
 /// Appends what stands in a field.
-#[tactic(auto, using(kmp_base::proofs::TextLaws::decimal_fits))]
+#[tactic(auto, using(std_laws::proofs::NumberLaws::length_decimal_64))]
 fn add_found(row: &mut Row, found: Found)
     requires { length row.old ≤ 108 }
     ensures bytes { row.new ≡ row.old ++ found_text found }
@@ -48,7 +48,7 @@ pub fn agrees() -> Row
 }
 
 /// The row of a report's first difference.
-#[tactic(auto, using(kmp_base::proofs::TextLaws::decimal_fits))]
+#[tactic(auto, using(std_laws::proofs::NumberLaws::length_decimal_64))]
 pub fn differs(difference: &Difference) -> Row
     ensures row { result ≡ difference_row difference.now }
 {

@@ -7,7 +7,6 @@
 //! - `proofs/StreamLaws`: texts that are appended one after another, and bytes that are read one after another.
 //! - `proofs/CollectedLaws`: what is written over a sink that collects is written beneath.
 //! - `proofs/ReadingLaws`: a step of reading and what follows it, and values that are read one by one.
-//! - `proofs/TextLaws`: how long a decimal number is, and which texts spell no word.
 #![tactic(auto)]
 
 mod collected;
@@ -22,7 +21,7 @@ mod streams;
 mod transfer;
 
 pub use collected::Collected;
-pub use fault::Fault;
+pub use fault::{Fault, FaultAt};
 pub use memory::{MemorySink, MemorySource};
 pub use names::named;
 pub use numbers::{decimal_of, hex8_of};

@@ -58,7 +58,7 @@ impl Row {
     }
 
     /// Appends a number in decimal digits, without a sign or a leading zero.
-    #[tactic(auto, using(crate::proofs::TextLaws::decimal_fits))]
+    #[tactic(auto, using(std_laws::proofs::NumberLaws::length_decimal_64))]
     pub fn decimal(&mut self, n: u64)
         requires { length self.old + length (decimal n) ≤ ROOM }
         ensures bytes { self.new ≡ self.old ++ decimal n }

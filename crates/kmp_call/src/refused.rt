@@ -8,7 +8,7 @@ use kmp_base::Row;
 use kmp_words::{Refusal, WordCause, WordFault};
 
 // A refusal's number and name, and the kind and the number of its place.
-#[tactic(auto, using(kmp_base::proofs::TextLaws::decimal_fits))]
+#[tactic(auto, using(std_laws::proofs::NumberLaws::length_decimal_64))]
 fn refused(number: u64, name: &str, kind: &str, place: u64) -> Row
     requires name { length name.now ≤ 20 }
     requires kind { length kind.now ≤ 10 }

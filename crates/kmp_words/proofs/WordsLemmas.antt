@@ -9,8 +9,8 @@ use Rattle.std.specs.Option.{option_len, option_map_or, ok_or}
 use Rattle.std.proofs.lemmas.Fmt.{decimal_is_IsNumeral}
 use Rattle.std.proofs.lemmas.Bool.{false_from_ne_true}
 use Rattle.std.proofs.lemmas.Bool.Decides.{nat_tests}
-use Rattle.std.proofs.lemmas.Option.{same_Some}
-use Rattle.std_laws.proofs.OptionLaws.{cond_some_parts}
+use Rattle.std.proofs.lemmas.Option.{cond_some, same_Some}
+use Rattle.std_laws.proofs.OptionLaws.{option_len_none}
 use Rattle.std.proofs.lemmas.Slice.Eq.{bytes_eq-Decides}
 use Rattle.std.proofs.lemmas.List.{drop_more}
 use Rattle.kmp_base.specs.declared.setup.MachineKind.TheVariants as machines
@@ -72,10 +72,6 @@ count_of options =
     option_len options.machine + option_len options.cores + option_len options.budget + option_len options.turns
     + option_len options.seed + option_len options.size + option_len options.memory + option_len options.image
 
-none_len : {A : Type 0} (o : Option A) → is_some o ≡ false → option_len o ≡ 0
-none_len None none = refl
-none_len (Some x) none = absurd cc
-
 -- an option that has a value is put
 record Puts {A : Type 0} (put : A → Options) (value : Option A) (more : Options) : Type 0 where
   it : A
@@ -90,28 +86,28 @@ with_counts : (options more : Options) (name : OptionName) (word : ℕ) (value :
     → with_option options name word value ≡ Some more → count_of more ≡ count_of options + 1
 with_counts options more names.Machine word (Some text) once is =
     let p = puts_of (λ kind. record options { machine = Some kind }) (named machine_names text) more is in
-    let none = none_len options.machine once in rw p.puts (omega (arith, none))
+    let none = option_len_none options.machine once in rw p.puts (omega (arith, none))
 with_counts options more names.Cores word (Some text) once is =
     let p = puts_of (λ cores. record options { cores = Some cores }) (number_within 1 8 text) more is in
-    let none = none_len options.cores once in rw p.puts (omega (arith, none))
+    let none = option_len_none options.cores once in rw p.puts (omega (arith, none))
 with_counts options more names.Budget word (Some text) once is =
     let p = puts_of (λ budget. record options { budget = Some budget }) (number_within 1 100000 text) more is in
-    let none = none_len options.budget once in rw p.puts (omega (arith, none))
+    let none = option_len_none options.budget once in rw p.puts (omega (arith, none))
 with_counts options more names.Turns word (Some text) once is =
     let p = puts_of (λ order. record options { turns = Some order }) (named turns_names text) more is in
-    let none = none_len options.turns once in rw p.puts (omega (arith, none))
+    let none = option_len_none options.turns once in rw p.puts (omega (arith, none))
 with_counts options more names.Seed word (Some text) once is =
     let p = puts_of (λ seed. record options { seed = Some seed }) (number_within 0 4294967295 text) more is in
-    let none = none_len options.seed once in rw p.puts (omega (arith, none))
+    let none = option_len_none options.seed once in rw p.puts (omega (arith, none))
 with_counts options more names.Size word (Some text) once is =
     let p = puts_of (λ size. record options { size = Some size }) (number_within 0 1000 text) more is in
-    let none = none_len options.size once in rw p.puts (omega (arith, none))
+    let none = option_len_none options.size once in rw p.puts (omega (arith, none))
 with_counts options more names.Memory word (Some text) once is =
     let p = puts_of (λ lines. record options { memory = Some (lines, word) }) (option_and_then lines_of (number_in text)) more is in
-    let none = none_len options.memory once in rw p.puts (omega (arith, none))
+    let none = option_len_none options.memory once in rw p.puts (omega (arith, none))
 with_counts options more names.Image word None once is =
     let this : more ≡ record options { image = Some word } = cc in
-    let none = none_len options.image once in rw this (omega (arith, none))
+    let none = option_len_none options.image once in rw this (omega (arith, none))
 with_counts options more names.Machine word None once is = absurd cc
 with_counts options more names.Cores word None once is = absurd cc
 with_counts options more names.Budget word None once is = absurd cc
@@ -178,22 +174,18 @@ within_bounds : (least most : ℕ) (number : Option ℕ) (n : ℕ)
 within_bounds least most None n is = absurd cc
 within_bounds least most (Some number) n is = grind (arith, nat_tests)
 
--- the one value of a table of one entry
-one_value : {T : Type 0} (found : Bool) (value other : T) → (if found then Some value else None) ≡ Some other → other ≡ value
-one_value found value other is = sym (same_Some value other (cond_some_parts found (Some value) other is).1)
-
--- those of a table of two
+-- the values of a table of two entries
 two_values : {T : Type 0} (first second : Bool) (one two other : T)
     → (if first then Some one else if second then Some two else None) ≡ Some other → (other ≡ one) ⊎ (other ≡ two)
 two_values true second one two other is = inl (sym (same_Some one other is))
-two_values false second one two other is = inr (one_value second two other is)
+two_values false second one two other is = inr (sym (cond_some second two other is).1)
 
 with_proper : (options more : Options) (name : OptionName) (word : ℕ) (value : Option (List ℕ))
     → with_option options name word value ≡ Some more → AreProper options → AreProper more
 with_proper options more names.Machine word (Some text) is before =
     let p = puts_of (λ kind. record options { machine = Some kind }) (named machine_names text) more is in
     rw p.puts (record {
-      machine_is = one_value _ machines.Plain p.it p.is;
+      machine_is = sym (cond_some _ machines.Plain p.it p.is).1;
       cores_are = before.cores_are;
       budget_is = before.budget_is;
       turns_are = before.turns_are;
@@ -363,7 +355,7 @@ named_is_of programs.Kmp text command is =
     by_tests false false false true commands.RunOnThreads is = absurd cc
     by_tests false false false false commands.RunOnThreads is = absurd cc
 named_is_of programs.KmpMp text command is =
-    subst (IsOf programs.KmpMp) (sym (one_value (bytes_eq (codes "run") text) commands.RunOnThreads command is)) tt
+    subst (IsOf programs.KmpMp) (cond_some (bytes_eq (codes "run") text) commands.RunOnThreads command is).1 tt
 
 -- what a program's command with such options asks for can be carried out
 pub order_runnable : (program : Program) (command : Command) (options : Options) → IsOf program command → AreProper options

@@ -1,12 +1,10 @@
 -- What an input means: a program, or a refusal.
 use Rattle.std.specs.Prelude.{◌≡◌, ◌⊎◌, ℕ, ◌+◌, ◌≤◌, nat_lt, if◌then◌else◌, List, [], length, Option, Result, Ok, Err}
+use Rattle.kmp_base.specs.declared.fault.FaultAt.{FaultAt}
+use Rattle.kmp_base.specs.declared.fault.FaultAt.TheVariants as located
 use Rattle.kmp_base.specs.Streams.{Took, IsSpent, Rose}
-use Rattle.image_file.specs.declared.fault.ImageFault.{ImageFault}
-use Rattle.image_file.specs.declared.fault.ImageFault.TheVariants as images
 use Rattle.image_file.specs.Reading.{image_meaning}
 use Rattle.asm_token.specs.declared.fault.AsmCause.{AsmCause}
-use Rattle.asm_token.specs.declared.fault.AsmFault.{AsmFault}
-use Rattle.asm_token.specs.declared.fault.AsmFault.TheVariants as assembler
 use Rattle.asm_parse.specs.declared.statement.Statement.{Statement}
 use Rattle.asm_parse.specs.Lines.{statements_of}
 use Rattle.asm_layout.specs.DelaySlots.{split_lines}
@@ -67,15 +65,10 @@ Gives meaning (Err (loads.Refused refusal)) = meaning ≡ Err refusal
 Gives meaning (Err loads.Read) = ⊥
 Gives meaning (Err loads.Memory) = Unit {0}
 
--- the fault of loading where the assembler has one
-abbrev pub of_source : AsmFault → LoadFault
-of_source assembler.Memory = loads.Memory
-of_source (assembler.At cause line) = loads.Refused (Asm cause line)
-
--- the fault of loading where the reader of images has one
-abbrev pub of_image : ImageFault → LoadFault
-of_image images.Memory = loads.Memory
-of_image (images.At cause byte) = loads.Refused (Image cause byte)
+-- the fault of loading where what reads a program has one, whose cause and place become a refusal
+abbrev pub of_reading : {C : Type 0} → (C → ℕ → Refusal) → FaultAt C → LoadFault
+of_reading refusal located.Memory = loads.Memory
+of_reading refusal (located.At cause place) = loads.Refused (refusal cause place)
 
 -- What loading answers: the program or the refusal that the input means, a failed read, or want of memory.
 abbrev pub Loads : {S : Type 0} → (S → Option (List ℕ)) → (S → ℕ) → S → S → Input → Result Loaded LoadFault → Type 0

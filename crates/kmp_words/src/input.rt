@@ -1,8 +1,9 @@
 //! The program that is read from an input.
 ghost use Rattle.std.specs.Prelude.{◌≡◌, ◌≤◌, length};
 ghost use Rattle.kmp_words.specs.Words.{IsProperInput};
-ghost use Rattle.kmp_words.specs.Input.{limit_of, loaded_from, of_source, of_image, meaning_of, Gives, Loads};
+ghost use Rattle.kmp_words.specs.Input.{limit_of, loaded_from, of_reading, meaning_of, Gives, Loads};
 ghost use Rattle.kmp_words.specs.declared.input.LoadFault.TheVariants.{Memory};
+ghost use Rattle.kmp_words.specs.declared.input.Refusal.TheVariants as refusals;
 
 use asm_layout::split_lines;
 use asm_link::assemble;
@@ -56,7 +57,7 @@ pub enum LoadFault {
 }
 
 impl From<AsmFault> for LoadFault {
-    ghost from_gives = { λ fault result. result ≡ of_source fault };
+    ghost from_gives = { λ fault result. result ≡ of_reading refusals.Asm fault };
 
     fn from(fault: AsmFault) -> LoadFault {
         match fault {
@@ -67,7 +68,7 @@ impl From<AsmFault> for LoadFault {
 }
 
 impl From<ImageFault> for LoadFault {
-    ghost from_gives = { λ fault result. result ≡ of_image fault };
+    ghost from_gives = { λ fault result. result ≡ of_reading refusals.Image fault };
 
     fn from(fault: ImageFault) -> LoadFault {
         match fault {

@@ -8,7 +8,7 @@ use kmp_base::{Row, Setup};
 use timetable::CoreEnd;
 
 /// The row of the seed and of the number of blocks.
-#[tactic(auto, using(kmp_base::proofs::TextLaws::decimal_fits))]
+#[tactic(auto, using(std_laws::proofs::NumberLaws::length_decimal_64))]
 pub fn trial(seed: u32, size: u32) -> Row
     ensures row { result ≡ row_text (trial_row seed size) }
 {
@@ -22,7 +22,7 @@ pub fn trial(seed: u32, size: u32) -> Row
 }
 
 /// The row of the machine and of its cores.
-#[tactic(auto, using(kmp_base::proofs::TextLaws::decimal_fits))]
+#[tactic(auto, using(std_laws::proofs::NumberLaws::length_decimal_64))]
 pub fn machine(setup: &Setup) -> Row
     ensures row { result ≡ row_text (machine_row setup.now) }
 {
@@ -36,7 +36,7 @@ pub fn machine(setup: &Setup) -> Row
 }
 
 /// The row of a count.
-#[tactic(auto, using(kmp_base::proofs::TextLaws::decimal_fits))]
+#[tactic(auto, using(std_laws::proofs::NumberLaws::length_decimal_64))]
 pub fn count(name: &str, count: u64) -> Row
     requires short { length name.now ≤ 20 }
     ensures row { result ≡ row_text (count_row name.now count) }

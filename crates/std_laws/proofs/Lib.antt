@@ -1,3 +1,4 @@
 pub mod ListLaws
 pub mod OptionLaws
 pub mod NumberLaws
+pub mod RangeLaws

@@ -1,15 +1,17 @@
 -- An element of a list by its index, and what holds of each element.
 use Rattle.std.proofs.Common.{◌≡◌, ◌≢◌, ◌⊎◌, ℕ, zero, suc, ◌+◌, ◌<◌, List, [], ◌∷◌, ◌++◌, length, drop, refl, ap, sym, subst, ◌∙◌, arith}
 use Rattle.std.proofs.Common.{inl, inr, zero-add, ◌*◌, take, get_or, Bool, true, false, cond, append_assoc, length-append}
-use Rattle.std.specs.Prelude.{Some, slice_get, slice_set}
-use Rattle.std.specs.List.{AllByRecursion, list_all, count_by, flat_map}
+use Rattle.std.specs.Prelude.{Some, replicate, slice_get, slice_set}
+use Rattle.std.specs.List.{AllByRecursion, list_all, filter, count_by, flat_map}
 use Rattle.std.proofs.lemmas.Bool.{cases_eq, and_parts}
 use Rattle.std.proofs.lemmas.Option.{none-some, same_Some, get_or_from_slice_get, slice_get_within}
 use Rattle.std.proofs.lemmas.List.{set-get_or, drop_more, take_more, drop-drop, drop_all, drop_at, take_all, take_at, flat_map_more}
+use Rattle.std.proofs.lemmas.List.{take-append-drop}
+use Rattle.std.proofs.lemmas.List.Elements.{recursion_from_All, All-replicate}
 use Rattle.std.proofs.Math.Nat.{suc-add}
 use Rattle.std.proofs.lemmas.List.Concat.{flat_map-append}
 use Rattle.std.proofs.lemmas.List.Folds.{list_all-append}
-use Rattle.std.proofs.lemmas.List.Sums.{sum_by-cons}
+use Rattle.std.proofs.lemmas.List.Sums.{length-filter, sum_by-cons}
 use Rattle.std.proofs.Math.Seq.{take-add}
 
 -- ---- an element by its index
@@ -44,6 +46,19 @@ slice_get_at [] y ys zero e = refl
 slice_get_at [] y ys (suc n) e = absurd (omega (arith, e))
 slice_get_at (x ∷ p) y ys zero e = absurd (omega (arith, e))
 slice_get_at (x ∷ p) y ys (suc n) e = slice_get_at p y ys n (omega (arith, e))
+
+-- an element of a list with one more is one of the list, or the last
+pub slice_get-push_cases : {X : Type 0} (xs : List X) (y : X) (k : ℕ) (x : X) → slice_get (xs ++ y ∷ []) k ≡ Some x
+    → ((k < length xs) × (slice_get xs k ≡ Some x)) ⊎ ((k ≡ length xs) × (x ≡ y))
+slice_get-push_cases [] y zero x got = inr (refl, sym (same_Some y x got))
+slice_get-push_cases [] y (suc k) x got = cc
+slice_get-push_cases (a ∷ xs) y zero x got = inl (omega arith, got)
+slice_get-push_cases (a ∷ xs) y (suc k) x got =
+    elim (slice_get-push_cases xs y k x got) as (λ _. ((suc k < length (a ∷ xs)) × (slice_get (a ∷ xs) (suc k) ≡ Some x))
+    ⊎ ((suc k ≡ length (a ∷ xs)) × (x ≡ y))) [
+      | inl h ↦ (let lt = h.0 in inl (omega (arith, lt), h.1))
+      | inr h ↦ (let is = h.0 in inr (omega (arith, is), h.1))
+    ]
 
 pub slice_get-drop : {X : Type 0} (n : ℕ) (xs : List X) (i : ℕ) → slice_get (drop n xs) i ≡ slice_get xs (n + i)
 slice_get-drop zero xs i = rw zero-add refl
@@ -130,6 +145,15 @@ pub AllByRecursion-parts : {X : Type 0} (P : X → Type 0) (xs ys : List X) → 
 AllByRecursion-parts P [] ys h = (tt, h)
 AllByRecursion-parts P (x ∷ xs) ys h = let others = AllByRecursion-parts P xs ys h.1 in ((h.0, others.0), others.1)
 
+-- on either side of an index
+pub AllByRecursion-take_drop : {X : Type 0} (P : X → Type 0) (n : ℕ) (xs : List X) → AllByRecursion P xs → AllByRecursion P (take n xs)
+    × AllByRecursion P (drop n xs)
+AllByRecursion-take_drop P n xs h =
+    AllByRecursion-parts P (take n xs) (drop n xs) (subst (AllByRecursion P) (sym (take-append-drop n xs)) h)
+
+pub AllByRecursion-replicate : {X : Type 0} (P : X → Type 0) (n : ℕ) (x : X) → P x → AllByRecursion P (replicate n x)
+AllByRecursion-replicate P n x here = recursion_from_All P (replicate n x) (All-replicate P n x here)
+
 pub AllByRecursion-weaker : {X : Type 0} (P Q : X → Type 0) → ((x : X) → P x → Q x) → (xs : List X) → AllByRecursion P xs
     → AllByRecursion Q xs
 AllByRecursion-weaker P Q f [] h = tt
@@ -159,6 +183,13 @@ list_all_both p xs ys first second = rw (list_all-append p xs ys, first, second)
 
 pub count_by-cons : {X : Type 0} (p : X → Bool) (x : X) (xs : List X) → count_by p (x ∷ xs) ≡ cond (p x) 1 0 + count_by p xs
 count_by-cons {X = X} p x xs = sum_by-cons (λ (y : X). cond (p y) 1 0) x xs
+
+filter-true : {X : Type 0} (xs : List X) → filter (λ x. true) xs ≡ xs
+filter-true [] = refl
+filter-true (x ∷ xs) = ap (λ ys. x ∷ ys) (filter-true xs)
+
+pub count_by-true : {X : Type 0} (xs : List X) → count_by (λ x. true) xs ≡ length xs
+count_by-true xs = sym (length-filter (λ x. true) xs) ∙ ap length (filter-true xs)
 
 -- ---- a piece for each element, one behind another
 

@@ -1,7 +1,7 @@
 -- Options that are made of others.
 use Rattle.std.proofs.Common.{◌≡◌, ℕ, List, ◌++◌, refl, sym, ap, append_assoc}
 use Rattle.std.specs.Prelude.{Bool, true, false, cond, Option, Some, None, is_some}
-use Rattle.std.specs.Option.{option_and_then, option_map, option_flatten, unwrap_or, option_len}
+use Rattle.std.specs.Option.{option_and_then, option_map, option_flatten, unwrap_or, option_len, is_none}
 use Rattle.std.specs.Io.KnownBytes.{append_known, prepend_known}
 use Rattle.std.proofs.lemmas.Option.{none-some, same_Some}
 
@@ -54,6 +54,14 @@ pub none_from_is_some : {A : Type 0} (o : Option A) → is_some o ≡ false → 
 none_from_is_some None h = refl
 none_from_is_some (Some x) h = cc
 
+pub none_from_is_none : {A : Type 0} (o : Option A) → is_none o ≡ true → o ≡ None
+none_from_is_none None h = refl
+none_from_is_none (Some x) h = cc
+
+pub none_from_no_some : {A : Type 0} (o : Option A) → ((x : A) → o ≡ Some x → ⊥) → o ≡ None
+none_from_no_some None h = refl
+none_from_no_some (Some x) h = absurd (h x refl)
+
 -- ---- of two values that aren't both wanted, either may be tried first
 
 pub cond_some-comm : {A : Type 0} (first second : Bool) (x y : A) (o : Option A) → (second ≡ true → first ≡ false)
@@ -66,6 +74,9 @@ cond_some-comm first true x y o apart = rw (apart refl) refl
 pub option_len-map : {A B : Type 0} (f : A → B) (o : Option A) → option_len (option_map f o) ≡ option_len o
 option_len-map f None = refl
 option_len-map f (Some x) = refl
+
+pub option_len_none : {A : Type 0} (o : Option A) → is_some o ≡ false → option_len o ≡ 0
+option_len_none o h = ap option_len (none_from_is_some o h)
 
 -- ---- bytes that may be known
 

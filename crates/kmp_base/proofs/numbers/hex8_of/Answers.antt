@@ -1,6 +1,6 @@
 use Rattle.std.proofs.Common.{◌∙◌, sym}
 use Rattle.std.proofs.lemmas.Bool.{false≢true}
-use Rattle.kmp_base.proofs.TextLaws.{no_other_hex8, no_hex8}
+use Rattle.kmp_base.proofs.HexLemmas.{no_other_hex8, no_hex8}
 use Rattle.kmp_base.proofs.numbers.hex8_of.Goals as goal
 
 pub returns-then-is_err : goal.returns-then-is_err

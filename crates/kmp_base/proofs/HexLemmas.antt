@@ -1,5 +1,5 @@
--- How long numbers are in decimal, and which texts spell no word in hexadecimal.
-use Rattle.std.proofs.Common.{◌≡◌, ◌≢◌, ℕ, zero, suc, ◌^◌, ◌<◌, ◌≤◌, List, length, decimal, refl, sym, ap, ◌∙◌, arith}
+-- Which texts spell no word in hexadecimal.
+use Rattle.std.proofs.Common.{◌≡◌, ◌≢◌, ℕ, zero, suc, ◌^◌, ◌<◌, List, refl, sym, ap, ◌∙◌, arith}
 use Rattle.std.specs.Result.{is_err}
 use Rattle.std.specs.Prelude.{true, Result, Ok, Err, MatchResult}
 use Rattle.std.specs.Int.{w32, to_be_bytes, from_be_bytes}
@@ -8,11 +8,6 @@ use Rattle.hex.specs.Hex.{decode_sized, IsBytes}
 use Rattle.hex.specs.declared.error.FromHexError.{FromHexError}
 use Rattle.hex.proofs.HexLemmas.{decode_sized-encode_lower}
 use Rattle.kmp_base.specs.Text.{hex8}
-use Rattle.std.proofs.lemmas.Fmt.{length-decimal-le}
-
--- a number of 64 bits has at most 20 digits
-pub decimal_fits : (n : ℕ) → n < 2 ^ 64 → length (decimal n) ≤ 20
-decimal_fits n fits = length-decimal-le 20 n (omega arith) (omega arith) fits
 
 -- The four bytes of a word, and their digits.
 
