@@ -16,5 +16,8 @@ pub mod RoundLemmas
 pub mod RunLemmas
 pub mod DrawLemmas
 pub mod SeededLemmas
-pub mod PlainEndLaws
 pub mod RunLaws
+pub mod PlainEndLemmas
+pub mod PlainRunLaws
+pub mod PipedEndLemmas
+pub mod PipedRunLaws

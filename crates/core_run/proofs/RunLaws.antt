@@ -1,195 +1,64 @@
--- What a run of unpipelined cores says of their cycles and their turns, where each answer came as its request was served.
-use Rattle.std.proofs.Common.{◌≡◌, ℕ, ◌+◌, ◌<◌, ◌≤◌, ◌⊎◌, inl, inr, Bool, true, false, List, [], ◌∷◌, ◌++◌, length, refl, ap, sym, ◌∙◌}
-use Rattle.std.proofs.Common.{arith, subst}
-use Rattle.std.specs.Prelude.{Some, None, map, slice_get, ◌==◌}
-use Rattle.std.specs.List.{AllByRecursion}
-use Rattle.std.proofs.lemmas.Bool.{cases_lt, eq-eqb, ne_eqb}
+-- What a run is whose cores were all served without a wait, whatever their engines are.
+use Rattle.std.proofs.Common.{◌≡◌, ℕ, List, arith}
+use Rattle.std.specs.Prelude.{Some, None, false, map, slice_get}
 use Rattle.std.proofs.lemmas.Option.{slice_get_within}
-use Rattle.std.proofs.lemmas.List.Elements.{filter-append}
-use Rattle.std.proofs.lemmas.List.{append-nil, length-append, length-map}
-use Rattle.std_laws.proofs.ListLaws.{slice_get_some}
-use Rattle.kmp_base.specs.declared.setup.Setup.{Setup}
-use Rattle.kmp_base.specs.declared.setup.MachineKind.TheVariants as machines
 use Rattle.image_file.specs.Value.{ImageValue}
 use Rattle.access_log.specs.declared.Entry.{Entry}
 use Rattle.access_log.specs.Items.{entries}
 use Rattle.access_log.specs.Replay.{own}
-use Rattle.access_log.specs.Stamps.{Stamp, own_stamps}
-use Rattle.access_log.proofs.StampLaws.{own-stamps}
+use Rattle.access_log.specs.Stamps.{Stamp}
 use Rattle.timetable.specs.declared.CoreEnd.{CoreEnd}
+use Rattle.timetable.specs.declared.rows.TimeRow.{TimeRow}
 use Rattle.timetable.specs.Outcome.{OutcomeValue}
-use Rattle.right_run.specs.Right.{IsRight}
-use Rattle.right_run.specs.Turns.{in_cycles}
-use Rattle.right_run.proofs.PlainLaws.{right-from_plain}
 use Rattle.mem_port.specs.Engine.{EngineView}
 use Rattle.mem_port.specs.Memory.{MemoryView, IsFresh, IsAtOnce}
-use Rattle.mem_port.specs.ServiceHistory.{ServiceHistory, IsFirstHistory}
-use Rattle.core_run.specs.Lanes.{IsStarted, IsClosed}
-use Rattle.core_run.specs.PlainView.{in_own_cycles, plain_view, IsPlainHistory}
-use Rattle.core_run.specs.Outcomes.{IsStartSlot, IsRun, IsEngineOf, EndsServed, NoneWaited}
-use Rattle.core_run.specs.Serial.{AreReceived, IsServedRun}
-use Rattle.core_run.specs.declared.plain.Plain.{Plain}
-use Rattle.core_run.specs.declared.serial.CoreSlot.{CoreSlot}
-use Rattle.core_run.proofs.PlainEndLaws.{IsUnstalledEnd, unstalled-end}
+use Rattle.mem_port.specs.ServiceHistory.{ServiceHistory}
+use Rattle.core_run.specs.Outcomes.{IsRun, IsEngineOf, EndsServed, NoneWaited}
+use Rattle.core_run.specs.Serial.{IsServedRun}
 
-abbrev entry_in : Stamp → Entry
+abbrev pub entry_in : Stamp → Entry
 entry_in stamp = stamp.entry
 
--- The stamps of one core are in its own cycles, behind entries of an order.
-record HasOwnCycles (before : List Entry) (stamps : List Stamp) (core : ℕ) : Type 0 where
-  are : own_stamps stamps core ≡ in_own_cycles (length (own before core)) (own (map entry_in stamps) core)
+module _ {E : Type 0} (view : E → EngineView) (rows : E → List TimeRow) (times : ServiceHistory → E → Type 0) where
+  -- Each core ended with an engine that left these rows and was served by its history, without a wait.
+  abbrev pub EndsUnstalled : ImageValue → ℕ → OutcomeValue → (ℕ → ServiceHistory) → Type 0
+  EndsUnstalled image cores outcome histories = (core : ℕ) (ended : CoreEnd) → slice_get outcome.cores core ≡ Some ended
+      → ((histories core).is_drained ≡ false) × ((e : E) × (IsEngineOf image core cores (Some 0) ended (histories core) (view e)
+      × ((ended.rows.rows ≡ rows e) × (times (histories core) e
+      × (map entry_in (histories core).service.accesses ≡ own (entries outcome.items) core)))))
 
--- The first one is in its cycle.
-first-in-cycle : (before : List Entry) (stamp : Stamp) (stamps : List Stamp) → HasOwnCycles before (stamp ∷ stamps) stamp.entry.core
-    → (stamp ≡ record { entry = stamp.entry; cycle = stamp.entry.nth + length (own before stamp.entry.core) + 2 })
-first-in-cycle before stamp stamps h =
-    let is_own : (stamp.entry.core == stamp.entry.core) ≡ true = eq-eqb _ _ refl in
-    let all = rw is_own at h.are in
-    cc all
-
--- So are all behind it.
-others-own-if : (is_own : Bool) (before : List Entry) (stamp : Stamp) (stamps : List Stamp) (core : ℕ) → (stamp.entry.core == core) ≡ is_own
-    → HasOwnCycles before (stamp ∷ stamps) core → HasOwnCycles (before ++ stamp.entry ∷ []) stamps core
-others-own-if true before stamp stamps core is h =
-    let all = rw is at h.are in
-    let count : length (own (before ++ stamp.entry ∷ []) core) ≡ length (own before core) + 1 =
-    rw (filter-append, is) (length-append _ _) in
-    record { are = rw count (cc all) }
-others-own-if false before stamp stamps core is h =
-    let all = rw is at h.are in
-    let same : own (before ++ stamp.entry ∷ []) core ≡ own before core = rw (filter-append, is) (append-nil _) in
-    record { are = rw same all }
-
--- Stamps of single cores, each in its core's own cycles, are in the cycles of the whole order.
-in-cycles : (before : List Entry) (stamps : List Stamp) → ((core : ℕ) → HasOwnCycles before stamps core)
-    → stamps ≡ in_cycles before (map entry_in stamps)
-in-cycles before [] h = refl
-in-cycles before (stamp ∷ stamps) h =
-    let first = first-in-cycle before stamp stamps (h stamp.entry.core) in
-    let others = in-cycles (before ++ stamp.entry ∷ []) stamps
-    (λ core. others-own-if (stamp.entry.core == core) before stamp stamps core refl (h core)) in
-    cc (first, others)
-
--- A core that makes no entry has no stamp.
-own-none : (order : List Entry) (cores core : ℕ) → AllByRecursion (λ entry. entry.core < cores) order → cores ≤ core → own order core ≡ []
-own-none [] cores core h out = refl
-own-none (entry ∷ order) cores core h out =
-    let other : (entry.core == core) ≡ false = ne_eqb _ _ (λ same. omega (arith, h.0, same)) in
-    rw other (own-none order cores core h.1 out)
-
-none-mapped : (stamps : List Stamp) → map entry_in stamps ≡ [] → stamps ≡ []
-none-mapped [] h = refl
-none-mapped (stamp ∷ stamps) h = cc
-
-own-cycles-of : (cores : ℕ) (stamps : List Stamp) → AllByRecursion (λ entry. entry.core < cores) (map entry_in stamps)
-    → ((core : ℕ) → core < cores → own_stamps stamps core ≡ in_own_cycles 0 (map entry_in (own_stamps stamps core)))
-    → (core : ℕ) → core < cores ⊎ cores ≤ core → HasOwnCycles [] stamps core
-own-cycles-of cores stamps within own_cycles core (inl in_range) =
-    record { are = own_cycles core in_range ∙ ap (in_own_cycles 0) (sym (own-stamps stamps core)) }
-own-cycles-of cores stamps within own_cycles core (inr out) =
-    let none = own-none (map entry_in stamps) cores core within out in
-    record { are = none-mapped _ (sym (own-stamps stamps core) ∙ none) ∙ sym (ap (in_own_cycles 0) none) }
-
--- Accesses of cores that each make them in their own cycles are in the cycles of the whole order.
-received-cycles : (cores : ℕ) (order : List Entry) (stamps : List Stamp) → map entry_in stamps ≡ order
-    → AllByRecursion (λ entry. entry.core < cores) order
-    → ((core : ℕ) → core < cores → own_stamps stamps core ≡ in_own_cycles 0 (map entry_in (own_stamps stamps core)))
-    → stamps ≡ in_cycles [] order
-received-cycles cores order stamps are within own_cycles =
-    let inside = subst (AllByRecursion (λ (entry : Entry). entry.core < cores)) (sym are) within in
-    in-cycles [] stamps (λ core. own-cycles-of cores stamps inside own_cycles core (cases_lt core cores)) ∙ ap (in_cycles []) are
-
-abbrev pub view_of : Plain → EngineView
-view_of e = plain_view e.image.now e.core e.cores e.state e.executed e.phase e.clocks_left
-
-abbrev pub times_of : ServiceHistory → Plain → Type 0
-times_of history e = IsPlainHistory history (view_of e) e.phase
-
--- The slot of an unpipelined core before its first cycle.
-pub record IsFirstSlot (image : ImageValue) (cores core : ℕ) (s : CoreSlot Plain) : Type 0 where
-  pub slot : (budget : ℕ) → budget ≤ 4294967295 → IsStartSlot image core cores budget (view_of s.engine) s.lane s.end s.cycles
-  pub timed : (history : ServiceHistory) → IsFirstHistory history → times_of history s.engine
-
--- A slot as it was made with its engine.
-pub first-slot : (image : ImageValue) (cores core : ℕ) (engine : Plain) (s : CoreSlot Plain) → IsStarted image core cores (view_of engine)
-    → engine.clocks_left ≡ 4294967295
-    → ((history : ServiceHistory) → IsFirstHistory history → times_of history engine)
-    → s.engine ≡ engine → s.lane.core ≡ core → IsClosed s.lane → s.end ≡ None → s.cycles ≡ 0 → IsFirstSlot image cores core s
-first-slot image cores core engine s started clocks timed is lane_is closed no_end no_cycle = record {
-  slot = λ budget few.
-      record {
-        engine = rw is started;
-        clocks = rw (is, clocks) few;
-        lane_is = lane_is;
-        closed = closed;
-        no_end = no_end;
-        no_cycle = no_cycle;
-      };
-  timed = λ history first. rw is (timed history first);
-}
-
--- Each core ended with an engine that was served by its history, without a wait.
-abbrev pub EndsUnstalled : ImageValue → ℕ → OutcomeValue → (ℕ → ServiceHistory) → Type 0
-EndsUnstalled image cores outcome histories = (core : ℕ) (ended : CoreEnd) → slice_get outcome.cores core ≡ Some ended
-    → ((histories core).is_drained ≡ false) × ((e : Plain) × (IsEngineOf image core cores (Some 0) ended (histories core) (view_of e)
-    × ((ended.rows.rows ≡ []) × (times_of (histories core) e
-    × (map entry_in (histories core).service.accesses ≡ own (entries outcome.items) core)))))
-
-module _ (setup : Setup) (image : ImageValue) (outcome : OutcomeValue) (histories : ℕ → ServiceHistory)
-    (run : IsRun image setup.cores setup.budget None outcome) (each : EndsUnstalled image setup.cores outcome histories) where
-  end-at : (core : ℕ) (ended : CoreEnd) → slice_get outcome.cores core ≡ Some ended
-      → IsUnstalledEnd image (histories core).service.accesses ended
-  end-at core ended got =
-      let f = each core ended got in
-      let e = f.1.0 in
-      unstalled-end image e.image.now core setup.cores e.core e.cores ended (histories core) e.state e.executed e.clocks_left e.phase
-      f.1.1.0 f.1.1.1.1.0 f.0
-
-  -- Such a run is right.
-  pub run-right : setup.machine ≡ machines.Plain → IsRight setup image outcome
-  run-right plain = right-from_plain setup image outcome (record {
-    plain = plain;
-    replays = run.replays;
-    ends = λ core ended got.
-        (let accesses = (histories core).service.accesses in
-        let count : length accesses ≡ length (own (entries outcome.items) core) = sym (length-map accesses entry_in)
-        ∙ ap length (each core ended got).1.1.1.1.1 in
-        rw (← count) ((end-at core ended got).rightly setup.budget (run.ends core ended got)));
-    no_transaction = run.follows;
-    no_rows = λ core ended got. (each core ended got).1.1.1.0;
-  })
-
-  run-ordered : (in_order : List Stamp → Type 0) → AreReceived in_order outcome.items histories
-      → in_order (in_cycles [] (entries outcome.items))
-  run-ordered in_order received = subst in_order (received-cycles setup.cores (entries outcome.items) received.stamps received.are run.within
-      (λ core in_range.
-      (let some = slice_get_some outcome.cores core (omega (arith, run.count)) in
-      subst (λ (own : List Stamp). own ≡ in_own_cycles 0 (map entry_in own)) (received.received core) (end-at core some.0 some.1).cycles)))
-      received.ordered
+  -- What a run leaves of a memory without caches, and how its cores were served.
+  pub record IsUnstalledRun (image : ImageValue) (cores budget : ℕ) (outcome : OutcomeValue) (histories : ℕ → ServiceHistory) : Type 0
+    where
+      pub run : IsRun image cores budget None outcome
+      pub each : EndsUnstalled image cores outcome histories
 
 -- A run on a memory that was fresh, of the words of its setup.
 pub run-fresh : (image : ImageValue) (cores budget : ℕ) (m : MemoryView) (outcome : OutcomeValue) → IsFresh image cores budget None m
     → IsRun m.image m.cores budget m.caches outcome → IsRun image cores budget None outcome
 run-fresh image cores budget m outcome fresh run = rw (fresh.image_is, fresh.cores_are, fresh.caches_are) at run
 
--- The ends of a run on such a memory that answers each request as it is served.
-pub ends-unstalled : (image : ImageValue) (cores budget : ℕ) (m : MemoryView) (outcome : OutcomeValue) (histories : ℕ → ServiceHistory)
-    → IsFresh image cores budget None m → IsAtOnce m → length outcome.cores ≡ cores
-    → EndsServed view_of (λ e. []) times_of m outcome histories
-    → NoneWaited cores histories → EndsUnstalled image cores outcome histories
-ends-unstalled image cores budget m outcome histories fresh once count served waited core ended got = (
-  waited core (let within = slice_get_within outcome.cores core ended got in omega (arith, within, count)),
-  rw (fresh.image_is, fresh.cores_are, once.told, once.bound) at served core ended got,
-)
+-- So is a run on such a memory that answers each request as it is served, where no budget ended while a core waited.
+pub run-unstalled : {E : Type 0} (view : E → EngineView) (rows : E → List TimeRow) (times : ServiceHistory → E → Type 0)
+    (image : ImageValue) (cores budget : ℕ) (m : MemoryView) (outcome : OutcomeValue) (histories : ℕ → ServiceHistory)
+    → IsFresh image cores budget None m → IsAtOnce m → IsRun m.image m.cores budget m.caches outcome
+    → EndsServed view rows times m outcome histories → NoneWaited m.cores histories
+    → IsUnstalledRun view rows times image cores budget outcome histories
+run-unstalled view rows times image cores budget m outcome histories fresh once run served waited =
+    let same = run-fresh image cores budget m outcome fresh run in
+    record {
+      run = same;
+      each = λ core ended got. (
+        waited core (let within = slice_get_within outcome.cores core ended got in omega (arith, within, same.count, fresh.cores_are)),
+        rw (fresh.image_is, fresh.cores_are, once.told, once.bound) at served core ended got,
+      );
+    }
 
--- What a run in turns is, on a memory that answers each request as it is served.
-pub run-unstalled : (setup : Setup) (image : ImageValue) (m : MemoryView) (in_order : List Stamp → Type 0) (outcome : OutcomeValue)
-    (histories : ℕ → ServiceHistory) → setup.machine ≡ machines.Plain → IsFresh image setup.cores setup.budget None m → IsAtOnce m
-    → IsRun m.image m.cores setup.budget m.caches outcome → IsServedRun view_of (λ e. []) times_of m in_order outcome histories
-    → IsRight setup image outcome × in_order (in_cycles [] (entries outcome.items))
-run-unstalled setup image m in_order outcome histories plain fresh once run served =
-    let at_once = served.at_once once in
-    let same = run-fresh image setup.cores setup.budget m outcome fresh run in
-    let each = ends-unstalled image setup.cores setup.budget m outcome histories fresh once same.count served.ends
-    (λ core within. at_once.waited core (rw fresh.cores_are within)) in
-    (run-right setup image outcome histories same each plain, run-ordered setup image outcome histories same each in_order at_once.received)
+-- So is one that was served in an order.
+pub run-served : {E : Type 0} (view : E → EngineView) (rows : E → List TimeRow) (times : ServiceHistory → E → Type 0)
+    (in_order : List Stamp → Type 0) (image : ImageValue) (cores budget : ℕ) (m : MemoryView) (outcome : OutcomeValue)
+    (histories : ℕ → ServiceHistory) → IsFresh image cores budget None m → IsAtOnce m → IsRun m.image m.cores budget m.caches outcome
+    → IsServedRun view rows times m in_order outcome histories
+    → IsUnstalledRun view rows times image cores budget outcome histories
+run-served view rows times in_order image cores budget m outcome histories fresh once run served =
+    run-unstalled view rows times image cores budget m outcome histories fresh once run served.ends (served.at_once once).waited

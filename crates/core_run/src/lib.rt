@@ -8,8 +8,11 @@
 //! - `proofs/EndLaws`: the end that a cycle makes is one of its core, and the history by which its engine
 //!   is served behind it.
 //! - `proofs/LeadLaws`: calls behind others lead on, and calls on what holds a memory are calls on it.
-//! - `proofs/PlainEndLaws`: the end of an unpipelined core whose answers all came at once is right.
-//! - `proofs/RunLaws`: a run of such cores is right.
+//! - `proofs/PipedRunLaws`: a run of cores with five stages whose answers all came at once is right, and
+//!   its accesses were received in the cycles that its timetables tell.
+//! - `proofs/PlainRunLaws`: a run of such unpipelined cores is right, and its accesses were received in the
+//!   cycles that their order tells.
+//! - `proofs/RunLaws`: when all cores of a run were served without a wait.
 //! - `proofs/RunningLaws`: a core behind its cycle and behind its end, and how its engine was served.
 //! - `proofs/StartLaws`: a core before its first cycle.
 #![tactic(auto)]

@@ -1,23 +1,24 @@
-//! The run of a program on unpipelined cores.
-ghost use Rattle.std.specs.Prelude.{◌≡◌, ℕ, ◌*◌, ◌<◌, ◌≤◌, [], Some, length, slice_get, vec_len, IfOk};
+//! The run of a program on cores that take turns.
+ghost use Rattle.std.specs.Prelude.{◌≡◌, ℕ, ◌*◌, ◌<◌, ◌≤◌, [], Some, length, slice_get, vec_len, vec_capacity, IfOk};
 ghost use Rattle.std.specs.List.{AllByRecursion};
 ghost use Rattle.kmp_base.specs.Limits.{IsWithinLimits};
-ghost use Rattle.kmp_base.specs.declared.setup.MachineKind.TheVariants as machines;
+ghost use Rattle.kmp_base.specs.Machines.{IsUncached};
 ghost use Rattle.access_log.specs.Items.{entries};
 ghost use Rattle.right_run.specs.Right.{IsRight};
-ghost use Rattle.right_run.specs.Turns.{IsInTurns, cycles_of};
+ghost use Rattle.right_run.specs.Turns.{AreInTurns, IsInTurns, cycles_of, tables_of};
+ghost use Rattle.mem_port.specs.Memory.{IsFresh};
 ghost use Rattle.mem_port.specs.ServiceHistory.{ServiceHistory, IsFirstHistory};
-ghost use Rattle.core_run.specs.Outcomes.{AreFirst};
-ghost use Rattle.core_run.specs.Serial.{IsSerial};
+ghost use Rattle.core_run.specs.Outcomes.{AreFirst, IsRun};
+ghost use Rattle.core_run.specs.Serial.{IsSerial, IsServedRun};
 ghost use Rattle.core_run.specs.declared.plain.Plain.{Plain};
 ghost use Rattle.core_run.specs.declared.serial.CoreSlot.{CoreSlot};
 
-use crate::{CoreSlot, NoMemory, Plain, run_seeded, run_slots};
+use crate::{CoreSlot, NoMemory, Plain, TimedEngine, pipe_slots, run_seeded, run_slots};
 use image_file::Image;
-use kmp_base::{Setup, Turns};
-use mem_port::{CoreEngine, FlatMemory};
+use kmp_base::{MachineKind, Setup, Turns};
+use mem_port::{CoreEngine, FlatMemory, MemoryCore};
 use std::alloc::Global;
-use timetable::Outcome;
+use timetable::{CoreEnd, Outcome};
 
 /// A slot for each of so many unpipelined cores, before its first turn. It fails only for want of memory.
 pub fn plain_slots<'a>(
@@ -38,23 +39,56 @@ pub fn plain_slots<'a>(
     Ok(slots)
 }
 
+/// Runs all cores to their ends, in the turns of a setup. It takes no memory: the list of ends comes
+/// with room for them.
+fn run_in_turns<E: TimedEngine, M: MemoryCore>(
+    alloc: Global,
+    memory: M,
+    slots: Vec<CoreSlot<E>>,
+    ends: Vec<CoreEnd>,
+    setup: &Setup,
+) -> Outcome
+    requires budget { 1 ≤ setup.now.budget }
+    requires serial { IsSerial setup.now.turns }
+    requires fresh { IsFresh (M.view memory).image (M.view memory).cores setup.now.budget (M.view memory).caches (M.view memory) }
+    requires cores { vec_len slots ≡ (M.view memory).cores }
+    requires slots { AreFirst E.view (M.view memory).image (M.view memory).cores setup.now.budget slots.items }
+    requires room { vec_len slots ≤ vec_capacity ends }
+    requires empty { ends.items ≡ [] }
+    ensures run { IsRun (M.view memory).image (M.view memory).cores setup.now.budget (M.view memory).caches result }
+    ensures served { ((core : ℕ) (s : CoreSlot E) → slice_get slots.items core ≡ Some s → (history : ServiceHistory) → IsFirstHistory history → E.timed history s.engine)
+        → (histories : ℕ → ServiceHistory) × IsServedRun E.view E.rows E.timed (M.view memory)
+        (AreInTurns setup.now.turns setup.now.seed (cycles_of result.cores)) result histories }
+{
+    match setup.turns {
+        Turns::Round => run_slots(alloc, memory, slots, ends, setup.budget),
+        Turns::Seeded => run_seeded(alloc, memory, slots, ends, setup.seed, setup.budget),
+        Turns::Threads => unreachable!(),
+    }
+}
+
 /// Runs an image to the ends of its cores, in turns. All memory is taken before the first cycle.
 pub fn run_serial(alloc: Global, image: &Image, setup: &Setup) -> Result<Outcome, NoMemory>
     requires limits { IsWithinLimits setup.now }
-    requires plain { setup.now.machine ≡ machines.Plain }
+    requires uncached { IsUncached setup.now.machine }
     requires serial { IsSerial setup.now.turns }
     ensures right { IfOk result (IsRight setup.now image.now) }
-    ensures turns { IfOk result (λ outcome. IsInTurns setup.now (cycles_of outcome.cores) (entries outcome.items)) }
+    ensures turns { IfOk result (λ outcome. IsInTurns setup.now (cycles_of outcome.cores) (tables_of outcome.cores) (entries outcome.items)) }
     ensures cores { IfOk result (λ outcome. length outcome.cores ≡ setup.now.cores) }
     ensures words { IfOk result (λ outcome. length outcome.words ≡ 2 * image.now.memory_lines) }
     ensures within { IfOk result (λ outcome. AllByRecursion (λ entry. entry.core < setup.now.cores) (entries outcome.items)) }
 {
     let memory = FlatMemory::new(alloc, image, setup.cores, setup.budget)?;
     let ends = Vec::with_capacity(alloc, setup.cores as usize)?;
-    let slots = plain_slots(alloc, image, setup.cores)?;
-    match setup.turns {
-        Turns::Round => Ok(run_slots(alloc, memory, slots, ends, setup.budget)),
-        Turns::Seeded => Ok(run_seeded(alloc, memory, slots, ends, setup.seed, setup.budget)),
-        Turns::Threads => unreachable!(),
+    match setup.machine {
+        MachineKind::Plain => {
+            let slots = plain_slots(alloc, image, setup.cores)?;
+            Ok(run_in_turns(alloc, memory, slots, ends, setup))
+        }
+        MachineKind::Pipe => {
+            let slots = pipe_slots(alloc, image, setup.cores, setup.budget)?;
+            Ok(run_in_turns(alloc, memory, slots, ends, setup))
+        }
+        MachineKind::Full => unreachable!(),
     }
 }

@@ -2,11 +2,11 @@
 ghost use Rattle.std.specs.Prelude.{◌≡◌, ◌≤◌, ◌<◌, ◌*◌, ◌^◌, ℕ, Some, slice_get, vec_len, length, map, IfOk};
 ghost use Rattle.std.specs.List.{AllByRecursion};
 ghost use Rattle.kmp_base.specs.Limits.{IsWithinLimits};
-ghost use Rattle.kmp_base.specs.declared.setup.MachineKind.TheVariants as machines;
+ghost use Rattle.kmp_base.specs.Machines.{IsUncached};
 ghost use Rattle.kmp_base.specs.declared.setup.Turns.TheVariants as turns;
 ghost use Rattle.access_log.specs.Items.{entries};
 ghost use Rattle.right_run.specs.Right.{IsRight};
-ghost use Rattle.right_run.specs.Turns.{IsInTurns, cycles_of};
+ghost use Rattle.right_run.specs.Turns.{IsInTurns, cycles_of, tables_of};
 ghost use Rattle.mem_port.specs.Memory.{IsFresh, IsAtOnce};
 ghost use Rattle.mem_port.specs.ServiceHistory.{ServiceHistory, IsFirstHistory};
 ghost use Rattle.core_run.specs.Outcomes.{AreFirst, IsRun, EndsServed, NoneWaited};
@@ -16,9 +16,9 @@ ghost use Rattle.core_threads.specs.Workers.{IsFreshFor, IsReady, HasWorked};
 use crate::ends::gather;
 use crate::work::{Worker, work_all};
 use crate::{Gate, NoMemory};
-use core_run::{CoreSlot, TimedEngine, plain_slots};
+use core_run::{CoreSlot, TimedEngine, pipe_slots, plain_slots};
 use image_file::Image;
-use kmp_base::Setup;
+use kmp_base::{MachineKind, Setup};
 use mem_port::{FlatMemory, MemoryCore};
 use std::alloc::Global;
 use std::sync::Wait;
@@ -116,16 +116,26 @@ pub fn run_threads<R: Threads + Wait + Sync, G: Gate + Sync>(
     gate: &G,
 ) -> Result<Outcome, NoMemory>
     requires limits { IsWithinLimits setup.now }
-    requires plain { setup.now.machine ≡ machines.Plain }
+    requires uncached { IsUncached setup.now.machine }
     requires threads { setup.now.turns ≡ turns.Threads }
     ensures right { IfOk result (IsRight setup.now image.now) }
-    ensures turns { IfOk result (λ outcome. IsInTurns setup.now (cycles_of outcome.cores) (entries outcome.items)) }
+    ensures turns { IfOk result (λ outcome. IsInTurns setup.now (cycles_of outcome.cores) (tables_of outcome.cores) (entries outcome.items)) }
     ensures cores { IfOk result (λ outcome. length outcome.cores ≡ setup.now.cores) }
     ensures words { IfOk result (λ outcome. length outcome.words ≡ 2 * image.now.memory_lines) }
     ensures within { IfOk result (λ outcome. AllByRecursion (λ entry. entry.core < setup.now.cores) (entries outcome.items)) }
 {
     let memory = FlatMemory::new(alloc, image, setup.cores, setup.budget)?;
-    let slots = plain_slots(alloc, image, setup.cores)?;
-    let outcome = run_slots(rt, alloc, memory, slots, setup.budget, gate)?;
-    Ok(outcome)
+    match setup.machine {
+        MachineKind::Plain => {
+            let slots = plain_slots(alloc, image, setup.cores)?;
+            let outcome = run_slots(rt, alloc, memory, slots, setup.budget, gate)?;
+            Ok(outcome)
+        }
+        MachineKind::Pipe => {
+            let slots = pipe_slots(alloc, image, setup.cores, setup.budget)?;
+            let outcome = run_slots(rt, alloc, memory, slots, setup.budget, gate)?;
+            Ok(outcome)
+        }
+        MachineKind::Full => unreachable!(),
+    }
 }

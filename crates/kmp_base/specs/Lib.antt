@@ -3,6 +3,7 @@ pub mod Input
 pub mod Text
 pub mod Rows
 pub mod Limits
+pub mod Machines
 pub mod Memory
 pub mod Collected
 pub mod Names

@@ -1,12 +1,15 @@
-//! The timetables of cores with five stages, on a memory that answers at once.
+//! The timetables of cores with five stages, over flat memory.
 ghost use Rattle.std.specs.Prelude.{◌≤◌, length};
 
-use core_run::{pipe_slots, run_slots};
+use core_run::run_serial;
+use core_threads::{OpenGate, run_threads};
 use image_file::{Image, read_image};
-use mem_port::FlatMemory;
+use kmp_base::{MachineKind, Policy, Setup, Turns};
 use std::alloc::Global;
 use std::process::Abort;
+use std::sync::Wait;
 use std::test::Fail;
+use std::thread::Threads;
 use timetable::{Outcome, Rows, TimeRow};
 
 /// `lw $t0,0x100($zero)`, `beq $t0,$zero,1`, `nop` and `halt`.
@@ -17,11 +20,29 @@ const LOAD_AND_BRANCH: [u8; 32] =
 const STORE_LOAD_USE: [u8; 40] =
     *b"KMP1\x00\x20\x00\x00\x06\x00\x00\x00\x00\x00\x00\x00\x05\x00\x08\x24\x00\x01\x08\xac\x00\x01\x09\x8c\x21\x50\x29\x01\x0d\x00\x00\x00\x00\x00\x00\x00";
 
-fn run(alloc: Global, image: &Image) -> Result<Outcome, Fail> {
-    let memory = FlatMemory::new(alloc, image, 1, 100)?;
-    let slots = pipe_slots(alloc, image, 1, 100)?;
-    let ends = Vec::with_capacity(alloc, 1)?;
-    Ok(run_slots(alloc, memory, slots, ends, 100))
+/// What is asked of one core with five stages.
+const ONE_CORE: Setup = Setup {
+    machine: MachineKind::Pipe,
+    cores: 1,
+    budget: 100,
+    policy: Policy::Fifo,
+    turns: Turns::Round,
+    seed: 0,
+    sets: 1,
+    ways: 1,
+};
+
+fn run<R: Threads + Wait + Sync>(
+    rt: &R,
+    alloc: Global,
+    image: &Image,
+    turns: Turns,
+) -> Result<Outcome, Fail> {
+    let setup = Setup { turns, ..ONE_CORE };
+    match turns {
+        Turns::Round | Turns::Seeded => Ok(run_serial(alloc, image, &setup)?),
+        Turns::Threads => Ok(run_threads(rt, alloc, image, &setup, &OpenGate)?),
+    }
 }
 
 /// I, F, D, E, A, M and W.
@@ -38,8 +59,9 @@ fn are_rows(rows: &Rows, cycles: &[Cycles]) -> bool {
             .is_some_and(|row| is_row(row, expected)))
 }
 
-fn check(
-    rt: &impl Abort,
+/// One core has the same timetable in all turns.
+fn check<R: Threads + Wait + Sync + Abort>(
+    rt: &R,
     alloc: Global,
     spelling: &[u8],
     cycles: u32,
@@ -48,14 +70,16 @@ fn check(
     requires spelling { length spelling.now ≤ 268435456 }
 {
     let image = read_image(alloc, spelling)?;
-    let outcome = run(alloc, &image)?;
-    assert!(rt; outcome.cores.len() == 1);
-    assert!(rt;
-        outcome
-            .cores
-            .iter()
-            .all(|core| core.cycles == cycles && are_rows(&core.rows, rows))
-    );
+    for turns in [Turns::Round, Turns::Seeded, Turns::Threads] {
+        let outcome = run(rt, alloc, &image, turns)?;
+        assert!(rt; outcome.cores.len() == 1);
+        assert!(rt;
+            outcome
+                .cores
+                .iter()
+                .all(|core| core.cycles == cycles && are_rows(&core.rows, rows))
+        );
+    }
     Ok(())
 }
 

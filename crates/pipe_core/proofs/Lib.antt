@@ -16,6 +16,7 @@ pub mod MemLemmas
 pub mod MemTimeLemmas
 pub mod OnTimeLemmas
 pub mod PassageLemmas
+pub mod RowLaws
 pub mod RunClockLemmas
 pub mod RunLemmas
 pub mod StageLemmas

@@ -1,9 +1,8 @@
 -- The instructions and rows of a run, with one more.
-use Rattle.std.proofs.Common.{◌≡◌, ℕ, ◌+◌, ◌<◌, refl, ap, sym, ◌∙◌, arith, List, [], ◌∷◌, ◌++◌, length}
+use Rattle.std.proofs.Common.{◌≡◌, ℕ, ◌+◌, refl, ap, sym, ◌∙◌, arith, List, [], ◌∷◌, ◌++◌, length}
 use Rattle.std.specs.Prelude.{suc, Option, Some, None, slice_get}
 use Rattle.std.specs.List.{AllByRecursion}
 use Rattle.std.proofs.lemmas.List.{append-nil, map-append, length-append}
-use Rattle.std.proofs.lemmas.Option.{slice_get_within}
 use Rattle.mips_isa.specs.declared.Instr.{Instr}
 use Rattle.mips_isa.specs.declared.CoreState.{CoreState}
 use Rattle.mips_isa.specs.Steps.{start, next_of}
@@ -11,13 +10,14 @@ use Rattle.image_file.specs.Value.{ImageValue, memory_bytes}
 use Rattle.access_log.specs.declared.request.Request.{Request}
 use Rattle.access_log.specs.Requests.{entry_of}
 use Rattle.access_log.specs.Stamps.{Stamp, stamped}
-use Rattle.std_laws.proofs.ListLaws.{slice_get-append_left, slice_get_at}
+use Rattle.std_laws.proofs.ListLaws.{slice_get_at}
 use Rattle.timetable.specs.declared.rows.TimeRow.{TimeRow}
 use Rattle.timetable.specs.Trace.{Walk, walk_by, walks, instr_on, trace}
 use Rattle.timetable.proofs.TraceLaws.{walks-more, trace-more, walks-with}
 use Rattle.mem_port.specs.Loaded.{next_in, stop, request, quiet, finish}
 use Rattle.mem_port.proofs.LoadedLaws.{request-asks, next-goes}
 use Rattle.pipe_core.specs.PipeRun.{olds_of, HasClock, AreOf}
+use Rattle.pipe_core.proofs.RowLaws.{clocks-stay}
 
 entry_of-nth : (core : ℕ) (r : Request) (old : ℕ) → (entry_of core r old).nth ≡ r.nth
 unfolding entry_of
@@ -26,17 +26,6 @@ entry_of-nth core r old = refl
 entry_of-old : (core : ℕ) (r : Request) (old : ℕ) → (entry_of core r old).old ≡ old
 unfolding entry_of
 entry_of-old core r old = refl
-
--- rows that are there stay
-clock-stays : (rows : List TimeRow) (row : TimeRow) (stamp : Stamp) → HasClock rows stamp → HasClock (rows ++ row ∷ []) stamp
-clock-stays rows row stamp h =
-    let within : stamp.entry.nth < length rows = slice_get_within rows stamp.entry.nth h.0 h.1.0 in
-    (h.0, (slice_get-append_left rows (row ∷ []) stamp.entry.nth within ∙ h.1.0, h.1.1))
-
-pub clocks-stay : (rows : List TimeRow) (row : TimeRow) (stamps : List Stamp) → AllByRecursion (HasClock rows) stamps
-    → AllByRecursion (HasClock (rows ++ row ∷ [])) stamps
-clocks-stay rows row [] h = tt
-clocks-stay rows row (stamp ∷ stamps) h = (clock-stays rows row stamp h.0, clocks-stay rows row stamps h.1)
 
 all-end : (P : Stamp → Type 0) (stamps : List Stamp) (stamp : Stamp) → AllByRecursion P stamps → P stamp
     → AllByRecursion P (stamps ++ stamp ∷ [])

@@ -9,6 +9,7 @@
 //!
 //! - `proofs/EndLaws`: where the budget of a core is spent whose wants were met at once, the next
 //!   instruction would not be done within it.
+//! - `proofs/RowLaws`: behind one row more, the rows of accesses have their clocks still.
 #![tactic(auto)]
 
 mod flight;

@@ -1,5 +1,5 @@
 //! The rows that an engine keeps.
-ghost use Rattle.std.specs.Prelude.{◌≡◌, ◌<◌, ◌≤◌, [], IfOk, None};
+ghost use Rattle.std.specs.Prelude.{◌≡◌, ◌<◌, ◌≤◌, ◌^◌, [], IfOk, None};
 ghost use Rattle.pipe_core.specs.Table.{with_row, row_of, kept, instr_where};
 
 use crate::Times;
@@ -31,6 +31,7 @@ impl Model for Table {
 impl Table {
     /// No rows, and room for so many.
     pub fn new(alloc: Global, room: u32) -> Result<Table, NoMemory>
+        requires few { room < 2 ^ 29 }
         ensures empty { IfOk result (λ t. t ≡ record { rows = []; instrs = []; spare = room }) }
     {
         let rows = Rows::new(alloc, room)?;

@@ -1,1 +1,1 @@
-pub mod PlainLaws
+pub mod MachineLaws

@@ -1,4 +1,5 @@
 pub mod Cycles
+pub mod Stages
 pub mod Seeded
 pub mod Turns
 pub mod Right

@@ -2,7 +2,7 @@
 use Rattle.std.specs.Prelude.{◌≡◌, ℕ, List, [], map, length, None, Some, slice_get}
 use Rattle.kmp_base.specs.declared.setup.Setup.{Setup}
 use Rattle.kmp_base.specs.declared.setup.MachineKind.{MachineKind}
-use Rattle.kmp_base.specs.declared.setup.MachineKind.TheVariants.{Plain}
+use Rattle.kmp_base.specs.declared.setup.MachineKind.TheVariants.{Plain, Pipe, Full}
 use Rattle.mips_isa.specs.Steps.{next_of}
 use Rattle.image_file.specs.Value.{ImageValue, memory_bytes, code_lines, start_memory, start_states}
 use Rattle.access_log.specs.declared.Item.{Item}
@@ -12,22 +12,27 @@ use Rattle.letters.specs.Fold.{Follows}
 use Rattle.timetable.specs.declared.CoreEnd.{CoreEnd}
 use Rattle.timetable.specs.Outcome.{OutcomeValue, final_of}
 use Rattle.right_run.specs.Cycles.{IsPlainEnd}
+use Rattle.right_run.specs.Stages.{IsStagedEnd}
 
 -- The end of a core, by the machine: an unpipelined core ends by the number of its accesses and by what it would do next, and
--- has no timetable. On a machine that isn't there yet no end is right.
-abbrev pub EndsOn : MachineKind → ℕ → ImageValue → OutcomeValue → ℕ → CoreEnd → Type 0
-EndsOn Plain budget image outcome core ended =
-    IsPlainEnd budget (length (own (entries outcome.items) core)) (next_of image.code (memory_bytes image) ended.state) ended
+-- has no timetable; a core with five stages ends by its timetable, and flat memory lets nothing wait. On a machine that isn't
+-- there yet no end is right.
+abbrev pub EndsOn : MachineKind → Setup → ImageValue → OutcomeValue → ℕ → CoreEnd → Type 0
+EndsOn Plain setup image outcome core ended =
+    IsPlainEnd setup.budget (length (own (entries outcome.items) core)) (next_of image.code (memory_bytes image) ended.state) ended
     × (ended.rows.rows ≡ [])
-EndsOn machine budget image outcome core ended = ⊥
+EndsOn Pipe setup image outcome core ended =
+    IsStagedEnd (Some 0) setup.budget image core setup.cores (own (entries outcome.items) core) ended
+EndsOn Full setup image outcome core ended = ⊥
 
 abbrev pub EndsAt : Setup → ImageValue → OutcomeValue → ℕ → CoreEnd → Type 0
-EndsAt setup image outcome core ended = EndsOn setup.machine setup.budget image outcome core ended
+EndsAt setup image outcome core ended = EndsOn setup.machine setup image outcome core ended
 
 -- The letters, by the machine: over flat memory there are no caches. On a machine that isn't there yet no history is right.
 abbrev pub FollowsOn : MachineKind → ℕ → ImageValue → List Item → Type 0
 FollowsOn Plain cores image items = Follows None cores (code_lines image) items
-FollowsOn machine cores image items = ⊥
+FollowsOn Pipe cores image items = Follows None cores (code_lines image) items
+FollowsOn Full cores image items = ⊥
 
 -- The outcome of a run is right.
 pub record IsRight (setup : Setup) (image : ImageValue) (outcome : OutcomeValue) : Type 0 where

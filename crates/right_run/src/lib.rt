@@ -1,6 +1,6 @@
 //! When what a run leaves is right, by the machine and by the turns that were asked for.
 //!
-//! `proofs/PlainLaws`: on unpipelined cores over flat memory, part by part.
+//! `proofs/MachineLaws`: on one machine, part by part.
 #![tactic(auto)]
 
 ghost use Rattle.std.specs.Prelude.{◌≡◌, ◌≤◌};

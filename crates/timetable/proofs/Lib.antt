@@ -1,2 +1,5 @@
 pub mod TraceLaws
 pub mod FirstClockLaws
+pub mod WithinLaws
+pub mod TraceLengthLaws
+pub mod ClockLaws

@@ -2,7 +2,7 @@
 use Rattle.std.proofs.Common.{◌≡◌, ℕ, refl, ap, sym, ◌∙◌, List, [], ◌∷◌, ◌++◌}
 use Rattle.std.specs.Prelude.{zero, suc, Option, Some, None}
 use Rattle.std.specs.Option.{option_and_then}
-use Rattle.std_laws.proofs.OptionLaws.{option_and_then-Some, option_and_then_parts}
+use Rattle.std_laws.proofs.OptionLaws.{option_and_then-Some}
 use Rattle.mips_isa.specs.declared.Instr.{Instr}
 use Rattle.mips_isa.specs.declared.CoreState.{CoreState}
 use Rattle.mips_isa.specs.declared.Next.{Next}

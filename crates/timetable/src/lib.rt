@@ -5,12 +5,15 @@
 //!
 //! - `proofs/TraceLaws`: the instructions of a core that goes on by one more, and that finds more.
 //! - `proofs/FirstClockLaws`: on a memory that answers at once the clocks are the first that can be.
+//! - `proofs/WithinLaws`: M rises along a table, so all rows are within a limit exactly where the last one is.
+//! - `proofs/ClockLaws`: M bounds the clocks of its row and the number of the rows, so a core's timetable is within its budget.
+//! - `proofs/TraceLengthLaws`: a core that runs alone executes as many instructions as it is to.
 #![tactic(auto)]
 
 ghost use Rattle.std.specs.Prelude.{◌≡◌, ◌≤◌};
 
 pub mod laws;
-mod recurrence;
+pub mod recurrence;
 mod rows;
 mod waiting;
 

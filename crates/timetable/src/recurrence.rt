@@ -1,21 +1,14 @@
-//! The row that comes next, by the recurrence.
-ghost use Rattle.std.specs.Prelude.{◌≡◌, ◌≤◌, IfSome, is_some};
+//! The clocks that are due, and the row that comes next, by the recurrence.
+ghost use Rattle.std.specs.Prelude.{◌≡◌, ◌≤◌, ◌<◌, ◌+◌, ◌^◌, IfSome, is_some};
 ghost use Rattle.mips_isa.specs.Steps.{kind_at};
 ghost use Rattle.pipe_regs.specs.Slots.{IsProperWhere};
-ghost use Rattle.timetable.specs.Recurrence.{greater, no_row, last_of, is_executed, IsNextRow, AreSmall};
+ghost use Rattle.timetable.specs.Recurrence.{no_row, due_f, due_d, due_e, due_m, last_of, is_executed, IsNextRow, AreSmall};
 
 use crate::{Rows, TimeRow};
 use mips_isa::{Instr, effects};
 
-/// The greater of two clocks.
-fn greater(a: u32, b: u32) -> u32
-    ensures value { result ≡ greater a b }
-{
-    if a < b { b } else { a }
-}
-
 /// Before the first row all clocks are 0.
-pub(crate) fn no_row() -> TimeRow
+pub fn no_row() -> TimeRow
     ensures row { result ≡ no_row }
 {
     TimeRow {
@@ -27,6 +20,37 @@ pub(crate) fn no_row() -> TimeRow
         m: 0,
         w: None,
     }
+}
+
+/// The F that is due behind a row, where the word is taken in `i`.
+pub fn due_f(prior: &TimeRow, i: u32) -> u32
+    ensures value { result ≡ due_f prior.now i }
+{
+    i.max(prior.d)
+}
+
+/// The D that is due behind a row, where the operands are ready in `ready`.
+pub fn due_d(prior: &TimeRow, ready: u32, f: u32) -> u32
+    requires fits { f + 1 < 2 ^ 32 }
+    ensures value { result ≡ due_d prior.now ready f }
+{
+    (f + 1).max(prior.e.max(ready))
+}
+
+/// The E that is due behind a row.
+pub fn due_e(prior: &TimeRow, d: u32) -> u32
+    requires fits { d + 1 < 2 ^ 32 }
+    ensures value { result ≡ due_e prior.now d }
+{
+    (d + 1).max(prior.m)
+}
+
+/// The M that is due, where an access is answered in `a` or none is made.
+pub fn due_m(e: u32, a: Option<u32>) -> u32
+    requires fits { e + 1 < 2 ^ 32 }
+    ensures value { result ≡ due_m e a }
+{
+    (e + 1).max(a.unwrap_or(0))
 }
 
 /// Whether an instruction makes an access.
@@ -74,12 +98,12 @@ pub fn next_row(
     let last = prior.last().unwrap_or(no_row());
     let i = if instr.is_some() { i } else { last.f + 1 };
     let ready = writer.map_or(0, |m| m + 1);
-    let f = greater(i, last.d);
-    let d = greater(f + 1, greater(last.e, ready));
-    let e = greater(d + 1, last.m);
+    let f = due_f(&last, i);
+    let d = due_d(&last, ready, f);
+    let e = due_e(&last, d);
     let is_done = is_executed(instr, a);
     let a = if makes_access(instr) { a } else { None };
-    let m = greater(e + 1, a.unwrap_or(0));
+    let m = due_m(e, a);
     let w = if is_done { Some(m + 1) } else { None };
     TimeRow {
         i,

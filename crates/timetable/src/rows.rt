@@ -34,7 +34,8 @@ pub struct Waits {
     pub access: u64,
 }
 
-/// A list of rows, an instruction each, with room for so many more. It only grows.
+/// A list of rows, an instruction each, with room for so many more. It only grows. All these are
+/// fewer than 2^29, so that what the instructions of eight cores waited fits 64 bits.
 #[derive(Drop)]
 pub struct Rows {
     rows: Vec<TimeRow>,
@@ -49,7 +50,7 @@ impl Model for Rows {
 
     ghost view = { λ r. record { rows = r.rows.items; spare = r.spare } };
 
-    ghost invariant = { λ r. (vec_len r.rows + r.spare ≤ vec_capacity r.rows) × (vec_len r.rows + r.spare < 2 ^ 32) };
+    ghost invariant = { λ r. (vec_len r.rows + r.spare ≤ vec_capacity r.rows) × (vec_len r.rows + r.spare < 2 ^ 29) };
 }
 
 impl Rows {
@@ -64,18 +65,22 @@ impl Rows {
         }
     }
 
-    /// No rows, and room for so many. All its memory is taken here.
+    /// No rows, and room for so many. All its memory is taken here. It fails for want of memory, as
+    /// also where so many are more than a list of rows can have.
     pub fn new(alloc: Global, room: u32) -> Result<Rows, NoMemory>
         ensures rows { IfOk result (λ rows. rows.rows ≡ []) }
         ensures spare { IfOk result (λ rows. rows.spare ≡ room) }
     {
+        if room >= 1 << 29 {
+            return Err(NoMemory);
+        }
         let rows = Vec::with_capacity(alloc, room as usize)?;
         Ok(Rows { rows, spare: room })
     }
 
     /// These rows, and no room for more. It takes no memory.
     pub fn from_vec(rows: Vec<TimeRow>) -> Rows
-        requires few { length rows.items < 2 ^ 32 }
+        requires few { length rows.items < 2 ^ 29 }
         ensures rows { result.rows ≡ rows.items }
         ensures spare { result.spare ≡ 0 }
     {
@@ -116,7 +121,7 @@ impl Rows {
     /// All rows, in order.
     pub fn as_slice(&self) -> &[TimeRow]
         ensures rows { result.now ≡ self.now.rows }
-        ensures few { length result.now < 2 ^ 32 }
+        ensures few { length result.now < 2 ^ 29 }
     {
         self.rows.as_slice()
     }

@@ -36,6 +36,7 @@ pub fn waits(rows: &Rows) -> Waits
     ensures fetch { result.fetch ≡ fetch_waits rows.now.rows }
     ensures operand { result.operand ≡ operand_waits rows.now.rows }
     ensures access { result.access ≡ access_waits rows.now.rows }
+    ensures few { (result.fetch < 2 ^ 61) × (result.operand < 2 ^ 61) × (result.access < 2 ^ 61) }
 {
     let mut waits = Waits {
         fetch: 0,

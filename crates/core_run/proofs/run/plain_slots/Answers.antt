@@ -1,7 +1,7 @@
 use Rattle.std.proofs.Common.{arith}
 use Rattle.std.proofs.lemmas.Grind.{common_steps}
 use Rattle.std_laws.proofs.ListLaws.{AtEach-push}
-use Rattle.core_run.proofs.RunLaws.{IsFirstSlot, first-slot}
+use Rattle.core_run.proofs.PlainRunLaws.{IsFirstSlot, first-slot}
 use Rattle.core_run.proofs.run.plain_slots.Goals as goal
 
 pub loop-core-preserved : goal.loop-core-preserved

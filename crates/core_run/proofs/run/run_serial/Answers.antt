@@ -1,52 +1,70 @@
-use Rattle.std.proofs.Common.{arith}
-use Rattle.right_run.specs.Seeded.{AreSeeded}
-use Rattle.right_run.specs.Turns.{cycles_of}
-use Rattle.right_run.proofs.PlainLaws.{turns-rounds, turns-seeded}
-use Rattle.core_run.specs.Serial.{AreInRounds}
-use Rattle.core_run.proofs.RunLaws.{run-fresh, run-unstalled}
+use Rattle.std.proofs.Common.{refl, arith}
+use Rattle.kmp_base.specs.declared.setup.MachineKind.TheVariants as machines
+use Rattle.right_run.specs.Turns.{AreInTurns, cycles_of, tables_of}
+use Rattle.right_run.proofs.MachineLaws.{in-turns}
+use Rattle.pipe_core.specs.PipeView.{pipe_view}
+use Rattle.pipe_core.specs.PipeHistory.{pipe_timed}
+use Rattle.core_run.proofs.RunLaws.{run-fresh, run-served}
+use Rattle.core_run.proofs.PlainRunLaws.{view_of, times_of, rows_of, plain-right, plain-ordered}
+use Rattle.core_run.proofs.PipedRunLaws as piped
+use Rattle.core_run.proofs.PipedRunLaws.{piped-right, piped-ordered}
 use Rattle.core_run.proofs.run.run_serial.Goals as goal
 
-pub run_slots-requires-clause-slots : goal.run_slots-requires-clause-slots
-run_slots-requires-clause-slots c core s got =
+pub run_in_turns-requires-clause-slots : goal.run_in_turns-requires-clause-slots
+run_in_turns-requires-clause-slots c core s got =
     rw (c.in_ok-memory.ensures.fresh.image_is, c.in_ok-memory.ensures.fresh.cores_are)
-    (c.in_ok-slots.ensures.slots c.args.setup.now.budget (omega (arith, c.requires.limits.budget)) core s got)
+    (c.in_ok-slots-in-Plain.ensures.slots c.args.setup.now.budget (omega (arith, c.requires.limits.budget)) core s got)
 
-pub run_seeded-requires-clause-slots : goal.run_seeded-requires-clause-slots
-run_seeded-requires-clause-slots c core s got =
-    rw (c.in_ok-memory.ensures.fresh.image_is, c.in_ok-memory.ensures.fresh.cores_are)
-    (c.in_ok-slots.ensures.slots c.args.setup.now.budget (omega (arith, c.requires.limits.budget)) core s got)
+pub run_in_turns-requires-in-Pipe-clause-slots : goal.run_in_turns-requires-in-Pipe-clause-slots
+run_in_turns-requires-in-Pipe-clause-slots c core s got =
+    rw (c.in_ok-memory.ensures.fresh.image_is, c.in_ok-memory.ensures.fresh.cores_are) (c.in_ok-slots-in-Pipe.ensures.slots core s got)
 
-pub returns-in-Round-clause-right : goal.returns-in-Round-clause-right
-returns-in-Round-clause-right c =
-    let served = c.run_slots.ensures.served c.in_ok-slots.ensures.timed in
-    (run-unstalled c.args.setup.now c.args.image.now _ _ c.run_slots.result served.0 c.requires.plain
-    c.in_ok-memory.ensures.fresh c.in_ok-memory.ensures.at_once c.run_slots.ensures.run served.1).0
+pub returns-in_ok-slots-in-Plain-clause-right : goal.returns-in_ok-slots-in-Plain-clause-right
+returns-in_ok-slots-in-Plain-clause-right c =
+    let setup = c.args.setup.now in
+    let memory = c.in_ok-memory.ensures in
+    let served = c.run_in_turns.ensures.served c.in_ok-slots-in-Plain.ensures.timed in
+    plain-right setup c.args.image.now c.run_in_turns.result served.0
+    (run-served view_of rows_of times_of _ c.args.image.now setup.cores setup.budget _ c.run_in_turns.result served.0
+    memory.fresh memory.at_once c.run_in_turns.ensures.run served.1) c.in-Plain.is
 
-pub returns-in-Round-clause-turns : goal.returns-in-Round-clause-turns
-returns-in-Round-clause-turns c =
-    let served = c.run_slots.ensures.served c.in_ok-slots.ensures.timed in
-    let order = run-unstalled c.args.setup.now c.args.image.now _ (AreInRounds c.args.setup.now.budget 0) c.run_slots.result served.0
-    c.requires.plain c.in_ok-memory.ensures.fresh c.in_ok-memory.ensures.at_once c.run_slots.ensures.run served.1 in
-    turns-rounds c.args.setup.now _ _ c.requires.plain c.in-Round.is order.1.rising
+pub returns-in_ok-slots-in-Plain-clause-turns : goal.returns-in_ok-slots-in-Plain-clause-turns
+returns-in_ok-slots-in-Plain-clause-turns c =
+    let setup = c.args.setup.now in
+    let memory = c.in_ok-memory.ensures in
+    let cores = c.run_in_turns.result.cores in
+    let in_order = AreInTurns setup.turns setup.seed (cycles_of cores) in
+    let served = c.run_in_turns.ensures.served c.in_ok-slots-in-Plain.ensures.timed in
+    in-turns machines.Plain setup.turns setup (cycles_of cores) (tables_of cores) _ c.in-Plain.is refl
+    (plain-ordered setup c.args.image.now c.run_in_turns.result served.0
+    (run-served view_of rows_of times_of in_order c.args.image.now setup.cores setup.budget _ c.run_in_turns.result served.0
+    memory.fresh memory.at_once c.run_in_turns.ensures.run served.1) in_order (served.1.at_once memory.at_once).received)
 
-pub returns-in-Round-clause-within : goal.returns-in-Round-clause-within
-returns-in-Round-clause-within c = (run-fresh c.args.image.now c.args.setup.now.cores c.args.setup.now.budget _ c.run_slots.result
-    c.in_ok-memory.ensures.fresh c.run_slots.ensures.run).within
+pub returns-in_ok-slots-in-Plain-clause-within : goal.returns-in_ok-slots-in-Plain-clause-within
+returns-in_ok-slots-in-Plain-clause-within c = (run-fresh c.args.image.now c.args.setup.now.cores c.args.setup.now.budget _
+    c.run_in_turns.result c.in_ok-memory.ensures.fresh c.run_in_turns.ensures.run).within
 
-pub returns-in-Seeded-clause-right : goal.returns-in-Seeded-clause-right
-returns-in-Seeded-clause-right c =
-    let served = c.run_seeded.ensures.served c.in_ok-slots.ensures.timed in
-    (run-unstalled c.args.setup.now c.args.image.now _ _ c.run_seeded.result served.0 c.requires.plain
-    c.in_ok-memory.ensures.fresh c.in_ok-memory.ensures.at_once c.run_seeded.ensures.run served.1).0
+pub returns-in_ok-slots-in-Pipe-clause-right : goal.returns-in_ok-slots-in-Pipe-clause-right
+returns-in_ok-slots-in-Pipe-clause-right c =
+    let setup = c.args.setup.now in
+    let memory = c.in_ok-memory.ensures in
+    let served = c.run_in_turns-in-Pipe.ensures.served c.in_ok-slots-in-Pipe.ensures.timed in
+    piped-right setup c.args.image.now c.run_in_turns-in-Pipe.result served.0
+    (run-served pipe_view piped.rows_of pipe_timed _ c.args.image.now setup.cores setup.budget _ c.run_in_turns-in-Pipe.result served.0
+    memory.fresh memory.at_once c.run_in_turns-in-Pipe.ensures.run served.1) c.in-Pipe.is
 
-pub returns-in-Seeded-clause-turns : goal.returns-in-Seeded-clause-turns
-returns-in-Seeded-clause-turns c =
-    let served = c.run_seeded.ensures.served c.in_ok-slots.ensures.timed in
-    let cycles = cycles_of c.run_seeded.result.cores in
-    let order = run-unstalled c.args.setup.now c.args.image.now _ (AreSeeded c.args.setup.now.seed cycles) c.run_seeded.result served.0
-    c.requires.plain c.in_ok-memory.ensures.fresh c.in_ok-memory.ensures.at_once c.run_seeded.ensures.run served.1 in
-    turns-seeded c.args.setup.now cycles _ c.requires.plain c.in-Seeded.is order.1
+pub returns-in_ok-slots-in-Pipe-clause-turns : goal.returns-in_ok-slots-in-Pipe-clause-turns
+returns-in_ok-slots-in-Pipe-clause-turns c =
+    let setup = c.args.setup.now in
+    let memory = c.in_ok-memory.ensures in
+    let cores = c.run_in_turns-in-Pipe.result.cores in
+    let in_order = AreInTurns setup.turns setup.seed (cycles_of cores) in
+    let served = c.run_in_turns-in-Pipe.ensures.served c.in_ok-slots-in-Pipe.ensures.timed in
+    in-turns machines.Pipe setup.turns setup (cycles_of cores) (tables_of cores) _ c.in-Pipe.is refl
+    (piped-ordered setup c.args.image.now c.run_in_turns-in-Pipe.result served.0
+    (run-served pipe_view piped.rows_of pipe_timed in_order c.args.image.now setup.cores setup.budget _ c.run_in_turns-in-Pipe.result served.0
+    memory.fresh memory.at_once c.run_in_turns-in-Pipe.ensures.run served.1) in_order (served.1.at_once memory.at_once).received)
 
-pub returns-in-Seeded-clause-within : goal.returns-in-Seeded-clause-within
-returns-in-Seeded-clause-within c = (run-fresh c.args.image.now c.args.setup.now.cores c.args.setup.now.budget _ c.run_seeded.result
-    c.in_ok-memory.ensures.fresh c.run_seeded.ensures.run).within
+pub returns-in_ok-slots-in-Pipe-clause-within : goal.returns-in_ok-slots-in-Pipe-clause-within
+returns-in_ok-slots-in-Pipe-clause-within c = (run-fresh c.args.image.now c.args.setup.now.cores c.args.setup.now.budget _
+    c.run_in_turns-in-Pipe.result c.in_ok-memory.ensures.fresh c.run_in_turns-in-Pipe.ensures.run).within

@@ -75,7 +75,7 @@ none-left_out phases.Stopped h = refl
 none-left_out phases.GivenUp h = refl
 none-left_out phases.FoundDone h = cc
 
-undrained : (is_live goes is_drained : Bool) → is_drained ≡ false → is_live ≡ (goes && not is_drained) → is_live ≡ goes
+pub undrained : (is_live goes is_drained : Bool) → is_drained ≡ false → is_live ≡ (goes && not is_drained) → is_live ≡ goes
 undrained is_live true is_drained none h = h ∙ ap not none
 undrained is_live false is_drained none h = h
 
