@@ -4,6 +4,7 @@ ghost use Rattle.std.specs.List.{All};
 ghost use Rattle.kmp_base.specs.Limits.{IsWithinLimits};
 ghost use Rattle.mips_isa.specs.declared.Kind.TheVariants.{Lw, Sw, Cas};
 ghost use Rattle.access_log.specs.Items.{entries, transactions};
+ghost use Rattle.timetable.specs.Waits.{fetch_waits, operand_waits, access_waits};
 ghost use Rattle.right_run.specs.Right.{IsRight};
 ghost use Rattle.report_rows.specs.Bounds.{IsWord, IsCount};
 ghost use Rattle.report_rows.specs.Ends.{end_value};
@@ -17,7 +18,7 @@ use kmp_base::Setup;
 use mips_isa::Kind;
 use report_text::{Counts, MemoryWord, NoMemory, Report};
 use std::alloc::Global;
-use timetable::{CoreEnd, Outcome};
+use timetable::{CoreEnd, Outcome, Waits, waits};
 
 /// The words of memory past so many words of code that aren't 0.
 fn words_past(alloc: Global, code: usize, memory: &[u32]) -> Result<Vec<MemoryWord>, NoMemory>
@@ -101,7 +102,29 @@ fn retired(cores: &[CoreEnd]) -> u64
     cores.iter().map(|ended| u64::from(ended.retired)).sum()
 }
 
-/// The counts of a run without a bus and a pipeline.
+/// What the instructions of all cores waited, by their timetables.
+fn all_waits(cores: &[CoreEnd]) -> Waits
+    requires few { length cores.now ≤ 8 }
+    ensures fetch { result.fetch ≡ sum_by (λ ended. fetch_waits ended.rows.rows) cores.now }
+    ensures operand { result.operand ≡ sum_by (λ ended. operand_waits ended.rows.rows) cores.now }
+    ensures access { result.access ≡ sum_by (λ ended. access_waits ended.rows.rows) cores.now }
+{
+    let mut all = Waits {
+        fetch: 0,
+        operand: 0,
+        access: 0,
+    };
+    for ended in cores {
+        let waits = waits(&ended.rows);
+        all.fetch += waits.fetch;
+        all.operand += waits.operand;
+        all.access += waits.access;
+    }
+    all
+}
+
+/// The counts of a run without a bus: what the cores retired, their accesses by kind, and how long their instructions waited
+/// for words, for operands and for the answers to accesses. The counts of transactions are 0.
 #[tactic(auto, unfolding(report_text::specs::Counts::counts_of))]
 pub fn counts_of(cores: &[CoreEnd], items: &[Item]) -> Counts
     requires few { length cores.now ≤ 8 }
@@ -109,12 +132,16 @@ pub fn counts_of(cores: &[CoreEnd], items: &[Item]) -> Counts
     ensures fit { All IsCount result.values }
 {
     let accesses = count_accesses(items);
+    let waits = all_waits(cores);
     let mut values = [0; 13];
     values[0] = retired(cores);
     values[1] = accesses.loads;
     values[2] = accesses.stores;
     values[3] = accesses.compare_and_swaps;
     values[4] = accesses.swaps;
+    values[10] = waits.fetch;
+    values[11] = waits.operand;
+    values[12] = waits.access;
     Counts { values }
 }
 

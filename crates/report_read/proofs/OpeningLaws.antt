@@ -1,11 +1,13 @@
 -- The header and the image's rows but the last are read as what they spell.
 use Rattle.std.proofs.Common.{◌≡◌, ℕ, ◌+◌, ◌-◌, ◌*◌, ◌/◌, ◌^◌, ◌<◌, ◌≤◌, zero, suc, List, [], ◌∷◌, ◌++◌, length, take, drop, map, Ok, refl}
-use Rattle.std.proofs.Common.{sym, ap, subst, ◌∙◌, arith, length-append, length-drop, drop-drop}
+use Rattle.std.proofs.Common.{inl, sym, ap, subst, ◌∙◌, arith, length-append, length-drop, drop-drop}
 use Rattle.std.specs.Prelude.{codes, replicate}
 use Rattle.std.specs.List.{range_with_len}
 use Rattle.std.proofs.lemmas.List.{append-nil, take-append-drop, length-take-le, length-replicate, take-append-le, drop-append-le, take_all}
 use Rattle.std.proofs.lemmas.List.{nil_from_length, take_at, drop_at}
 use Rattle.kmp_base.specs.declared.setup.Setup.{Setup}
+use Rattle.kmp_base.specs.Machines.{IsUncached}
+use Rattle.kmp_base.specs.declared.setup.MachineKind.{MachineKind}
 use Rattle.kmp_base.specs.declared.setup.MachineKind.TheVariants.{Plain}
 use Rattle.kmp_base.specs.declared.setup.Policy.{Policy}
 use Rattle.kmp_base.specs.declared.setup.Policy.TheVariants as policies
@@ -21,55 +23,49 @@ use Rattle.row_reader.proofs.ManyLaws.{part_as, last_part, map_part, then_known,
 use Rattle.report_rows.specs.Bounds.{IsByte, IsHeader}
 use Rattle.report_rows.specs.Rows.{number_row, bytes_row, bytes_row_at, header_rows}
 use Rattle.report_row_reader.specs.Reading.{bytes_row_of}
-use Rattle.report_row_reader.proofs.RowLaws.{fixed_law, number_law, sets_law, policy_law, turns_law, bytes_law}
+use Rattle.report_row_reader.proofs.RowLaws.{fixed_law, number_law, machine_law, sets_law, policy_law, turns_law, bytes_law}
 use Rattle.report_text.proofs.ImageLaws.{AreBytes}
 use Rattle.report_read.specs.BadRow.{BeginsOpening, opening_rows}
 use Rattle.report_read.specs.Reading.{OpeningValue, caches_at, header_at, full_rows_at, opening_at}
 
 -- ---- the header
 
-make_setup : ℕ → ℕ → Policy → Turns → ℕ → ℕ → ℕ → Setup
-make_setup cores budget policy turns seed sets ways =
-    record { machine = Plain; cores = cores; budget = budget; policy = policy; turns = turns; seed = seed; sets = sets; ways = ways }
+make_setup : MachineKind → ℕ → ℕ → Policy → Turns → ℕ → ℕ → ℕ → Setup
+make_setup machine cores budget policy turns seed sets ways = record {
+  machine = machine;
+  cores = cores;
+  budget = budget;
+  policy = policy;
+  turns = turns;
+  seed = seed;
+  sets = sets;
+  ways = ways;
+}
 
-make_setup_is : (z : Setup) → z.machine ≡ Plain → make_setup z.cores z.budget z.policy z.turns z.seed z.sets z.ways ≡ z
+make_setup_is : (z : Setup) → make_setup z.machine z.cores z.budget z.policy z.turns z.seed z.sets z.ways ≡ z
 unfolding make_setup
-make_setup_is z plain =
-    ap (λ machine. record {
-      machine = machine;
-      cores = z.cores;
-      budget = z.budget;
-      policy = z.policy;
-      turns = z.turns;
-      seed = z.seed;
-      sets = z.sets;
-      ways = z.ways;
-    }) (sym plain)
+make_setup_is z = refl
 
-setup_is : (z : Setup) (cores budget : ℕ) (policy : Policy) (turns : Turns) (seed sets ways : ℕ)
-    → z.machine ≡ Plain → z.cores ≡ cores → z.budget ≡ budget → z.policy ≡ policy → z.turns ≡ turns → z.seed ≡ seed → z.sets ≡ sets
+setup_is : (z : Setup) (machine : MachineKind) (cores budget : ℕ) (policy : Policy) (turns : Turns) (seed sets ways : ℕ)
+    → z.machine ≡ machine → z.cores ≡ cores → z.budget ≡ budget → z.policy ≡ policy → z.turns ≡ turns → z.seed ≡ seed → z.sets ≡ sets
     → z.ways ≡ ways
-    → make_setup cores budget policy turns seed sets ways ≡ z
-setup_is z cores budget policy turns seed sets ways plain a b c d e f g = let all = make_setup_is z plain in cc
-
--- the rows of a setup of plain cores
-plain_rows : Setup → Rows
-plain_rows z = header_rows (make_setup z.cores z.budget z.policy z.turns z.seed z.sets z.ways)
+    → make_setup machine cores budget policy turns seed sets ways ≡ z
+setup_is z machine cores budget policy turns seed sets ways a b c d e f g h = let all = make_setup_is z in cc
 
 -- what its rows say, in their order
 abbrev HeaderFields : Setup → Type 0
 HeaderFields z =
-    (z.machine ≡ Plain) × (Unit {0} × (Unit {0}
+    Unit {0} × (Unit {0} × (IsUncached z.machine
     × (((1 ≤ z.cores) × (z.cores ≤ 8)) × (((1 ≤ z.budget) × (z.budget ≤ 100000))
     × (Unit {0} × (Unit {0}
     × (((0 ≤ z.seed) × (z.seed ≤ 2 ^ 32 - 1))
     × ((((k : ℕ) × (z.sets ≡ 2 ^ k)) × (z.sets ≤ 256)) × (((1 ≤ z.ways) × (z.ways ≤ 8)) × Unit {0})))))))))
 
-header_fields : IsPart HeaderFields plain_rows header_at
-unfolding header_at caches_at plain_rows header_rows make_setup
+header_fields : IsPart HeaderFields header_rows header_at
+unfolding header_at caches_at header_rows make_setup
 header_fields =
     then_known _ _ _ (λ z. tt) _ _ _ _ (row_part _ _ _ (fixed_law (codes "kmp-report" ∷ codes "1" ∷ [])) (tt, tt)) (λ title _.
-    then_known _ _ _ (λ z. tt) _ _ _ _ (row_part _ _ _ (fixed_law (codes "machine" ∷ codes "plain" ∷ [])) (tt, tt)) (λ machine _.
+    then_known _ _ _ (λ z. z.machine) _ _ _ _ (row_part _ _ _ machine_law (Plain, inl refl)) (λ machine _.
     then_known _ _ _ (λ z. z.cores) _ _ _ _ (row_part _ _ _ (number_law (codes "cores") 1 8 (omega arith)) (1, (omega arith, omega arith)))
     (λ cores _.
     then_known _ _ _ (λ z. z.budget) _ _ _ _
@@ -82,7 +78,7 @@ header_fields =
     then_known _ _ _ (λ z. z.ways) _ _ _ _ (row_part _ _ _ (number_law (codes "ways") 1 8 (omega arith)) (1, (omega arith, omega arith)))
     (λ ways _.
     last_known (record {
-      machine = Plain;
+      machine = machine;
       cores = cores;
       budget = budget;
       policy = policy;
@@ -91,16 +87,15 @@ header_fields =
       sets = sets;
       ways = ways;
     }) _
-    (λ z k. setup_is z cores budget policy turns seed sets ways k.1.1.1.1.1.1.1.1.1 k.1.1.1.1.1.1.0 k.1.1.1.1.1.0 k.1.1.1.1.0 k.1.1.1.0
-    k.1.1.0 k.1.0 k.0)
-    (refl, (refl, (refl, (refl, (refl, (refl, (refl, (refl, (refl, refl))))))))))))))))))
+    (λ z k. setup_is z machine cores budget policy turns seed sets ways k.1.1.1.1.1.1.1.0 k.1.1.1.1.1.1.0 k.1.1.1.1.1.0 k.1.1.1.1.0
+    k.1.1.1.0 k.1.1.0 k.1.0 k.0)
+    (refl, (refl, (refl, (refl, (refl, (refl, (refl, (refl, (refl, tt))))))))))))))))))
 
 header_part : IsPart IsHeader header_rows header_at
-unfolding plain_rows
 header_part =
-    part_as HeaderFields IsHeader plain_rows header_rows header_at
+    part_as HeaderFields IsHeader header_rows header_rows header_at
     (λ z h. record {
-      machine = h.0;
+      machine = h.1.1.0;
       limits = record {
         some_cores = h.1.1.1.0.0;
         cores = h.1.1.1.0.1;
@@ -114,11 +109,11 @@ header_part =
       seed = omega (arith, h.1.1.1.1.1.1.1.0.1);
     })
     (λ z i. (
-      i.machine,
+      tt,
       (
         tt,
         (
-          tt,
+          i.machine,
           (
             (i.limits.some_cores, i.limits.cores),
             (
@@ -138,7 +133,7 @@ header_part =
         ),
       ),
     ))
-    (λ z h. ap header_rows (make_setup_is z h.0)) header_fields
+    (λ z h. refl) header_fields
 
 -- ---- the image's rows but the last
 

@@ -4,7 +4,7 @@ use Rattle.std.specs.Prelude.{ℕ, zero, suc, ◌+◌, ◌-◌, ◌*◌, ◌/◌
 use Rattle.std.specs.Prelude.{Ok, Err}
 use Rattle.std.specs.List.{range_with_len}
 use Rattle.kmp_base.specs.declared.setup.Setup.{Setup}
-use Rattle.kmp_base.specs.declared.setup.MachineKind.TheVariants.{Plain}
+use Rattle.kmp_base.specs.declared.setup.MachineKind.{MachineKind}
 use Rattle.kmp_base.specs.declared.setup.Policy.{Policy}
 use Rattle.kmp_base.specs.declared.setup.Turns.{Turns}
 use Rattle.access_log.specs.declared.Entry.{Entry}
@@ -20,22 +20,22 @@ use Rattle.report_row_reader.specs.declared.read.EndRow.{EndRow}
 use Rattle.report_rows.specs.Ends.{EndValue}
 use Rattle.report_rows.specs.Names.{count_names}
 use Rattle.report_rows.specs.Bounds.{most_rows}
-use Rattle.report_row_reader.specs.Reading.{fixed_of, number_row_of, sets_row_of, policy_row_of, turns_row_of, bytes_row_of, entry_row_of}
-use Rattle.report_row_reader.specs.Reading.{end_row_of, registers_row_of, memory_row_of, count_row_of, NumberedRow, numbered, after_row}
-use Rattle.report_row_reader.specs.Reading.{is_timed, timed_row_of}
+use Rattle.report_row_reader.specs.Reading.{fixed_of, number_row_of, machine_row_of, sets_row_of, policy_row_of, turns_row_of}
+use Rattle.report_row_reader.specs.Reading.{bytes_row_of, entry_row_of, end_row_of, registers_row_of, memory_row_of, count_row_of}
+use Rattle.report_row_reader.specs.Reading.{NumberedRow, numbered, after_row, is_timed, timed_row_of}
 use Rattle.report_text.specs.Report.{ReportValue}
 
 -- ---- the header
 
--- its last rows, behind the cores, the budget, the policy and the turns
-unfoldable pub caches_at : ℕ → ℕ → Policy → Turns → Rows → Result (Setup × Rows) Rows
-caches_at cores budget policy turns rows = do
+-- its last rows, behind the machine, the cores, the budget, the policy and the turns
+unfoldable pub caches_at : MachineKind → ℕ → ℕ → Policy → Turns → Rows → Result (Setup × Rows) Rows
+caches_at machine cores budget policy turns rows = do
   seed ← row_at (number_row_of (codes "seed") 0 (2 ^ 32 - 1)) rows
   sets ← row_at sets_row_of seed.1
   ways ← row_at (number_row_of (codes "ways") 1 8) sets.1
   Ok (
     record {
-      machine = Plain;
+      machine = machine;
       cores = cores;
       budget = budget;
       policy = policy;
@@ -50,12 +50,12 @@ caches_at cores budget policy turns rows = do
 unfoldable pub header_at : Rows → Result (Setup × Rows) Rows
 header_at rows = do
   title ← row_at (fixed_of (codes "kmp-report" ∷ codes "1" ∷ [])) rows
-  machine ← row_at (fixed_of (codes "machine" ∷ codes "plain" ∷ [])) title.1
+  machine ← row_at machine_row_of title.1
   cores ← row_at (number_row_of (codes "cores") 1 8) machine.1
   budget ← row_at (number_row_of (codes "budget") 1 100000) cores.1
   policy ← row_at policy_row_of budget.1
   turns ← row_at turns_row_of policy.1
-  caches_at cores.0 budget.0 policy.0 turns.0 turns.1
+  caches_at machine.0 cores.0 budget.0 policy.0 turns.0 turns.1
 
 -- ---- the image
 

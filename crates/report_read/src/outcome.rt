@@ -139,6 +139,7 @@ fn timetable<'a>(
     core: u32,
     most: u32,
 ) -> Result<(Rows, &'a [u8]), Stuck<'a>>
+    requires few { most ≤ 100002 }
     ensures { Gives (λ x. (numbered 0 x.0.rows, rows_of x.1.now)) result (timetable_at most core (rows_of text.now)) }
 {
     let mut rows = Vec::new(alloc);
@@ -161,6 +162,7 @@ fn timetables<'a>(
     most: u32,
 ) -> Result<(Vec<CoreEnd>, &'a [u8]), Stuck<'a>>
     requires few { length ends.items ≤ 8 }
+    requires few_rows { most ≤ 100002 }
     ensures read { Gives (λ x. (map timed (map end_value x.0.items), rows_of x.1.now)) result
         (timetables_at most (length ends.items) (rows_of text.now)) }
     ensures ends { IfOk result (λ x.

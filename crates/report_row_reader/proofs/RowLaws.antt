@@ -4,7 +4,8 @@ use Rattle.std.proofs.Common.{◌∙◌, subst, arith}
 use Rattle.std.specs.Prelude.{codes, IfSome, Some}
 use Rattle.std.specs.List.{AllByRecursion}
 use Rattle.kmp_base.specs.Text.{hex8}
-use Rattle.kmp_base.specs.Names.{policy_name, turns_name}
+use Rattle.kmp_base.specs.Machines.{IsUncached}
+use Rattle.kmp_base.specs.Names.{machine_name, policy_name, turns_name}
 use Rattle.mips_isa.specs.declared.Kind.{Kind}
 use Rattle.mips_isa.specs.declared.Kind.TheVariants.{Fetch}
 use Rattle.access_log.specs.declared.Entry.{Entry}
@@ -19,10 +20,10 @@ use Rattle.report_rows.specs.declared.MemoryWord.{MemoryWord}
 use Rattle.report_rows.specs.Bounds.{IsWord, IsByte, IsTime, IsAddress, IsEntry, IsMemoryWord, IsCount}
 use Rattle.report_rows.specs.Rows.{text_row, number_row, bytes_row, entry_row, core_row, memory_row, count_row}
 use Rattle.report_row_reader.specs.declared.read.EndRow.{EndRow}
-use Rattle.report_row_reader.specs.Reading.{text_behind, behind_name, fixed_of, number_from, number_row_of, sets_row_of, policy_row_of}
-use Rattle.report_row_reader.specs.Reading.{turns_row_of, bytes_row_of, entry_row_of, entry_access_of, entry_words_of, end_row_of, end_numbers_of}
-use Rattle.report_row_reader.specs.Reading.{words_of, registers_row_of, memory_row_of, count_row_of}
-use Rattle.report_row_reader.proofs.ValueLaws.{field_as, policy_field, turns_field, kind_field, end_field, from_field, sets_field}
+use Rattle.report_row_reader.specs.Reading.{text_behind, behind_name, fixed_of, number_from, number_row_of, sets_row_of, machine_row_of}
+use Rattle.report_row_reader.specs.Reading.{policy_row_of, turns_row_of, bytes_row_of, entry_row_of, entry_access_of, entry_words_of, end_row_of}
+use Rattle.report_row_reader.specs.Reading.{end_numbers_of, words_of, registers_row_of, memory_row_of, count_row_of}
+use Rattle.report_row_reader.proofs.ValueLaws.{field_as, machine_field, policy_field, turns_field, kind_field, end_field, from_field, sets_field}
 use Rattle.report_row_reader.proofs.ValueLaws.{address_field, address_from_field, some_word_field}
 
 -- ---- names
@@ -86,6 +87,10 @@ number_law name least most small =
 pub sets_law : IsRow (λ n. ((k : ℕ) × (n ≡ 2 ^ k)) × (n ≤ 256)) (number_row (codes "sets")) sets_row_of
 unfolding sets_row_of
 sets_law = behind_law _ _ _ (codes "sets") sets_field
+
+pub machine_law : IsRow IsUncached (λ machine. text_row (codes "machine") (machine_name machine)) machine_row_of
+unfolding machine_row_of
+machine_law = behind_law _ _ _ (codes "machine") machine_field
 
 pub policy_law : IsRow (λ p. Unit {0}) (λ p. text_row (codes "arbitration") (policy_name p)) policy_row_of
 unfolding policy_row_of

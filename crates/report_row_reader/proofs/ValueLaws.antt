@@ -22,11 +22,15 @@ use Rattle.timetable.specs.declared.End.TheVariants as ends
 use Rattle.row_reader.specs.Numbers.{number_of, word_of}
 use Rattle.row_reader.proofs.FieldLaws.{IsField, some_is}
 use Rattle.row_reader.proofs.NumberLaws.{number_field, word_field, tested_field}
-use Rattle.kmp_base.specs.Names.{named, with_names, policy_name, turns_name, every_policy, every_turns}
+use Rattle.kmp_base.specs.Names.{named, with_names, machine_name, policy_name, turns_name, every_policy, every_turns}
+use Rattle.kmp_base.specs.Machines.{IsUncached}
+use Rattle.kmp_base.specs.declared.setup.MachineKind.{MachineKind}
+use Rattle.kmp_base.specs.declared.setup.MachineKind.TheVariants as machines
 use Rattle.mips_isa.specs.Names.{kind_name}
 use Rattle.timetable.specs.Names.{end_name}
 use Rattle.report_rows.specs.Bounds.{IsWord, IsAddress}
-use Rattle.report_row_reader.specs.Reading.{every_access, every_end, policy_of, turns_of, kind_of, end_of, number_from, sets_of, is_address}
+use Rattle.report_row_reader.specs.Reading.{every_uncached, every_access, every_end, machine_of, policy_of, turns_of, kind_of, end_of}
+use Rattle.report_row_reader.specs.Reading.{number_from, sets_of, is_address}
 use Rattle.report_row_reader.specs.Reading.{address_of, address_from, some_word_of}
 
 -- the same field in other words
@@ -50,6 +54,32 @@ named_found : {X : Type 0} (name : X → List ℕ) (values : List X) (text : Lis
 named_found name [] text x e = absurd cc
 named_found name (value ∷ values) text x e =
     named_here name text value x (bytes_eq (name value) text) (named (with_names name values) text) refl (named_found name values text x) e
+
+machine_again : (machine : MachineKind) → IsUncached machine → machine_of (machine_name machine) ≡ Some machine
+unfolding machine_of
+machine_again machines.Plain fits = refl
+machine_again machines.Pipe fits = refl
+machine_again machines.Full (inl plain) = absurd cc
+machine_again machines.Full (inr pipe) = absurd cc
+
+is_uncached : (machine : MachineKind) → machine_of (machine_name machine) ≡ Some machine → IsUncached machine
+unfolding machine_of
+is_uncached machines.Plain e = inl refl
+is_uncached machines.Pipe e = inr refl
+is_uncached machines.Full e = absurd cc
+
+machine_found : (text : List ℕ) (machine : MachineKind) → machine_of text ≡ Some machine
+    → IsUncached machine × (text ≡ machine_name machine)
+unfolding machine_of
+machine_found text machine e =
+    let is = named_found machine_name every_uncached text machine e in
+    (is_uncached machine (ap machine_of (sym is) ∙ e), is)
+
+pub machine_field : IsField IsUncached machine_name machine_of
+machine_field = record {
+  found = machine_found;
+  again = machine_again;
+}
 
 policy_again : (policy : Policy) → policy_of (policy_name policy) ≡ Some policy
 unfolding policy_of

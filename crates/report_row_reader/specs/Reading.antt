@@ -5,7 +5,9 @@ use Rattle.std.specs.Str.{bytes_eq}
 use Rattle.row_reader.specs.Rows.{Row}
 use Rattle.row_reader.specs.Fields.{◌>>=◌, part_at, field_at, ended}
 use Rattle.row_reader.specs.Numbers.{number_of, optional_number_of, word_of, optional_word_of, bytes_of, exactly}
-use Rattle.kmp_base.specs.Names.{named, with_names, policy_name, turns_name, every_policy, every_turns}
+use Rattle.kmp_base.specs.Names.{named, with_names, machine_name, policy_name, turns_name, every_policy, every_turns}
+use Rattle.kmp_base.specs.declared.setup.MachineKind.{MachineKind}
+use Rattle.kmp_base.specs.declared.setup.MachineKind.TheVariants.{Plain, Pipe}
 use Rattle.kmp_base.specs.declared.setup.Policy.{Policy}
 use Rattle.kmp_base.specs.declared.setup.Turns.{Turns}
 use Rattle.mips_isa.specs.declared.Kind.{Kind}
@@ -21,6 +23,14 @@ use Rattle.report_rows.specs.declared.MemoryWord.{MemoryWord}
 use Rattle.report_row_reader.specs.declared.read.EndRow.{EndRow}
 
 -- ---- names
+
+-- the machines whose reports are read
+abbrev pub every_uncached : List MachineKind
+every_uncached = Plain ∷ Pipe ∷ []
+
+-- the one of this name
+unfoldable pub machine_of : List ℕ → Option MachineKind
+machine_of text = named (with_names machine_name every_uncached) text
 
 -- the policy of this name
 unfoldable pub policy_of : List ℕ → Option Policy
@@ -77,6 +87,10 @@ sets_of text = number_from 1 256 text >>= λ n. if 256 % n == 0 then Some n else
 -- the number of a row of this name, within its limits
 unfoldable pub number_row_of : List ℕ → ℕ → ℕ → Row → Option ℕ
 number_row_of name least most row = behind_name (number_from least most) name row
+
+-- how much of the machine is there
+unfoldable pub machine_row_of : Row → Option MachineKind
+machine_row_of row = behind_name machine_of (codes "machine") row
 
 -- the number of sets
 unfoldable pub sets_row_of : Row → Option ℕ

@@ -3,14 +3,23 @@ ghost use Rattle.std.specs.Prelude.{◌≡◌, ◌≤◌, ◌<◌, ◌^◌, ◌*
 ghost use Rattle.std.specs.Option.{option_copied};
 ghost use Rattle.row_reader.specs.Fields.{Finds, parts_left, field_at};
 ghost use Rattle.row_reader.specs.Numbers.{number_of, optional_number_of, exactly};
-ghost use Rattle.report_row_reader.specs.Reading.{policy_of, turns_of, kind_of, end_of, number_from, sets_of, address_of, address_from, some_word_of};
+ghost use Rattle.report_row_reader.specs.Reading.{machine_of, policy_of, turns_of, kind_of, end_of, number_from, sets_of, address_of, address_from, some_word_of};
 
 use itoa::Buffer;
-use kmp_base::{MOST_SETS, Policy, Turns, named};
+use kmp_base::{MOST_SETS, MachineKind, Policy, Turns, named};
 use mips_isa::{Kind, Stop};
 use report_rows::MOST_TIME;
 use row_reader::{Parts, name, number_of, optional_number_of, word_of};
 use timetable::End;
+
+/// A machine whose reports are read.
+#[tactic(auto, unfolding(crate::specs::Reading::machine_of))]
+pub(crate) fn machine_of(text: &[u8]) -> Option<MachineKind>
+    ensures { result ≡ machine_of text.now }
+{
+    let machines = [MachineKind::Plain, MachineKind::Pipe];
+    named(&machines.map(|machine| (machine.name(), machine)), text)
+}
 
 #[tactic(auto, unfolding(crate::specs::Reading::policy_of))]
 pub(crate) fn policy_of(text: &[u8]) -> Option<Policy>

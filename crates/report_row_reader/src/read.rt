@@ -3,14 +3,14 @@ ghost use Rattle.std.specs.Prelude.{◌≡◌, ◌+◌, ◌<◌, ◌≤◌, [], 
 ghost use Rattle.row_reader.specs.Rows.{rows_of, first_passes};
 ghost use Rattle.std.specs.Option.{option_copied};
 ghost use Rattle.row_reader.specs.Fields.{Finds, parts_of, parts_left};
-ghost use Rattle.report_row_reader.specs.Reading.{fixed_of, text_behind, number_row_of, sets_row_of, policy_row_of, turns_row_of, bytes_row_of, entry_row_of, entry_access_of, entry_words_of, end_row_of, end_numbers_of, words_of, registers_row_of, memory_row_of, count_row_of, is_timed, last_stages_of, stages_of, numbered_row_of};
+ghost use Rattle.report_row_reader.specs.Reading.{fixed_of, text_behind, number_row_of, machine_row_of, sets_row_of, policy_row_of, turns_row_of, bytes_row_of, entry_row_of, entry_access_of, entry_words_of, end_row_of, end_numbers_of, words_of, registers_row_of, memory_row_of, count_row_of, is_timed, last_stages_of, stages_of, numbered_row_of};
 
 use crate::fields::{
-    address_from, address_of, end_of, kind_of, number_from, number_name, optional_time_of,
-    policy_of, sets_of, some_word_of, time_of, turns_of,
+    address_from, address_of, end_of, kind_of, machine_of, number_from, number_name,
+    optional_time_of, policy_of, sets_of, some_word_of, time_of, turns_of,
 };
 use access_log::Entry;
-use kmp_base::{Policy, Turns};
+use kmp_base::{MachineKind, Policy, Turns};
 use mips_isa::Kind;
 use report_rows::MemoryWord;
 use row_reader::{
@@ -64,6 +64,14 @@ pub fn number_row(row: &[u8], title: &[u8], least: u64, most: u64) -> Option<u64
     ensures some { IfSome result (λ n. least ≤ n) }
 {
     number_from(text_behind(row, title)?, least, most)
+}
+
+/// How much of the machine is there: a machine without caches, for reports of others aren't read.
+#[tactic(auto, unfolding(crate::specs::Reading::machine_row_of))]
+pub fn machine_row(row: &[u8]) -> Option<MachineKind>
+    ensures read { result ≡ machine_row_of (parts_of row.now) }
+{
+    machine_of(text_behind(row, b"machine")?)
 }
 
 /// The number of sets, a power of two.

@@ -5,6 +5,7 @@ use Rattle.kmp_base.specs.declared.setup.Setup.{Setup}
 use Rattle.kmp_base.specs.declared.setup.MachineKind.{MachineKind}
 use Rattle.kmp_base.specs.declared.setup.MachineKind.TheVariants.{Plain}
 use Rattle.kmp_base.specs.Limits.{IsWithinLimits}
+use Rattle.kmp_base.specs.Machines.{IsUncached}
 use Rattle.mips_isa.specs.declared.Kind.TheVariants.{Fetch}
 use Rattle.access_log.specs.declared.Entry.{Entry}
 use Rattle.access_log.specs.declared.Item.{Item}
@@ -26,7 +27,7 @@ IsTime n = n ≤ 100002
 
 -- The header: a machine whose reports are read, and numbers within their limits.
 pub record IsHeader (setup : Setup) : Type 0 where
-  pub machine : setup.machine ≡ Plain
+  pub machine : IsUncached setup.machine
   pub limits : IsWithinLimits setup
   pub seed : IsWord setup.seed
 
@@ -44,7 +45,7 @@ pub record IsEntry (cores bytes : ℕ) (entry : Entry) : Type 0 where
   pub old : IsWord entry.old
   pub new : IfSome entry.new IsWord
 
--- Unpipelined cores over flat memory make accesses, and no transaction.
+-- Cores over flat memory make accesses, and no transaction.
 abbrev pub IsItem : ℕ → ℕ → Item → Type 0
 IsItem cores bytes (Done entry) = IsEntry cores bytes entry
 IsItem cores bytes (Bus transaction) = ⊥

@@ -26,6 +26,7 @@ pub const MOST_TIME: u32 = MOST_BUDGET + 2;
 /// How many rows the timetable of a core may have: an unpipelined core has none.
 pub fn most_rows(machine: MachineKind) -> u32
     ensures most { result ≡ most_rows machine }
+    ensures few { result ≤ 100002 }
 {
     match machine {
         MachineKind::Plain => 0,

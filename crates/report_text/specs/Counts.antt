@@ -6,6 +6,7 @@ use Rattle.access_log.specs.declared.Entry.{Entry}
 use Rattle.access_log.specs.declared.Item.{Item}
 use Rattle.access_log.specs.declared.Item.TheVariants.{Done, Bus}
 use Rattle.access_log.specs.Items.{entries}
+use Rattle.timetable.specs.Waits.{fetch_waits, operand_waits, access_waits}
 use Rattle.report_rows.specs.Ends.{EndValue}
 
 abbrev pub is_same_kind : Kind → Kind → Bool
@@ -32,9 +33,17 @@ access_counts_of cores accesses =
     ∷ count_by is_swap accesses
     ∷ []
 
--- Without a bus and a pipeline the eight counts of transactions and of waits are 0.
+-- The cycles that the cores' timetables tell as waits: for words, for operands, and for the answers to accesses.
+abbrev pub wait_counts_of : List EndValue → List ℕ
+wait_counts_of cores =
+    sum_by (λ (ended : EndValue). fetch_waits ended.rows) cores
+    ∷ sum_by (λ (ended : EndValue). operand_waits ended.rows) cores
+    ∷ sum_by (λ (ended : EndValue). access_waits ended.rows) cores
+    ∷ []
+
+-- Without a bus the five counts of transactions are 0.
 unfoldable pub counts_of : List EndValue → List Item → List ℕ
-counts_of cores items = access_counts_of cores (entries items) ++ replicate 8 0
+counts_of cores items = access_counts_of cores (entries items) ++ replicate 5 0 ++ wait_counts_of cores
 
 -- whether an item is an entry that passes a test
 abbrev pub at_entry : (Entry → Bool) → Item → Bool

@@ -6,6 +6,7 @@ use image_file::read_image;
 use kmp_base::{Collected, MachineKind, MemorySink, Policy, Setup, Turns};
 use mips_isa::{CoreState, Stop};
 use report_print::print_report;
+use report_read::read_report;
 use report_text::{Counts, MemoryWord, NoMemory, Report};
 use std::alloc::Global;
 use std::test::Fail;
@@ -129,7 +130,7 @@ R 1 0 00000000 00000000 00000000 00000000 00000000 00000000 00000000 00000000
 R 1 8 00000000 00000000 00000000 00000000 00000000 00000000 00000000 00000000
 R 1 16 00000000 00000000 00000000 00000000 00000000 00000000 00000000 00000000
 R 1 24 00000000 00000000 00000000 00000000 00000000 00000000 00000000 00000000
-W 00000100 00000005
+W 0000000c 00000005
 T 0 0 1 1 2 3 4 4 5
 T 0 1 2 2 5 6 - 7 8
 T 0 2 3 5 6 7 - 8 9
@@ -152,7 +153,8 @@ N wait-access 0
 end
 ";
 
-/// Timetables stand behind the memory words, those of each core from its instruction 0 on.
+/// Timetables stand behind the memory words, those of each core from its instruction 0 on, and with
+/// ample memory they are read there.
 #[test]
 fn timetables_have_their_rows(rt: HostRuntime) -> Result<(), Fail> {
     let first = [
@@ -171,11 +173,14 @@ fn timetables_have_their_rows(rt: HostRuntime) -> Result<(), Fail> {
     report.setup.budget = 20_000;
     report.cores.push(halted(first.to_vec(rt.alloc())?))?;
     report.cores.push(halted(second.to_vec(rt.alloc())?))?;
-    report.words.push(MemoryWord {
-        addr: 256,
-        value: 5,
-    })?;
+    report.words.push(MemoryWord { addr: 12, value: 5 })?;
     let (is_put, held) = put_until(rt.alloc(), &report, 1000)?;
+    assert!(rt; is_put);
+    assert!(rt; held.as_slice() == TIMED.as_bytes());
+    let Ok(read) = read_report(rt.alloc(), TIMED.as_bytes()) else {
+        return Err(Fail::new("not read"));
+    };
+    let (is_put, held) = put_until(rt.alloc(), &read, 1000)?;
     assert!(rt; is_put);
     assert!(rt; held.as_slice() == TIMED.as_bytes());
     Ok(())
