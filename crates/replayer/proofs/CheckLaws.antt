@@ -11,8 +11,8 @@ use Rattle.report_rows.specs.Bounds.{IsItem}
 use Rattle.report_text.specs.Report.{ReportValue}
 use Rattle.report_text.specs.Form.{IsReport}
 use Rattle.report_text.specs.Right.{IsRightReport}
-use Rattle.replayer.specs.declared.Difference.{Difference}
-use Rattle.replayer.specs.Judgments.{first_told}
+use Rattle.row_check.specs.declared.difference.Difference.{Difference}
+use Rattle.row_check.specs.Judgments.{first_told}
 use Rattle.replayer.specs.Outcome.{machine_of, outcome_judged}
 use Rattle.replayer.specs.Difference.{IsDifference}
 use Rattle.replayer.proofs.OnlyLaws.{entry_difference_is_none}

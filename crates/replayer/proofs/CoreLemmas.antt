@@ -1,15 +1,13 @@
 -- How far a core comes that is to catch up, and what its rows judge.
-use Rattle.std.proofs.Common.{◌≡◌, ℕ, zero, suc, ◌+◌, ◌-◌, ◌<◌, ◌≤◌, List, ◌++◌, length, get_or, map, Option, Some, None, refl, sym, ap}
+use Rattle.std.proofs.Common.{◌≡◌, ℕ, zero, suc, ◌+◌, ◌-◌, ◌≤◌, List, length, Option, Some, None, refl, sym, ap}
 use Rattle.std.proofs.Common.{◌∙◌, arith}
 use Rattle.std.specs.Prelude.{◌==◌, slice_get}
 use Rattle.std.specs.List.{count_by}
 use Rattle.std.proofs.lemmas.List.Sums.{length-filter}
 use Rattle.std.specs.Option.{option_map}
-use Rattle.std.proofs.lemmas.List.{length-map}
-use Rattle.std.proofs.lemmas.Option.{same_Some, slice_get-map, slice_get_within, slice_get_read}
+use Rattle.std.proofs.lemmas.Option.{same_Some}
 use Rattle.std_laws.proofs.OptionLaws.{option_and_then_parts}
 use Rattle.mips_isa.specs.declared.CoreState.{CoreState}
-use Rattle.mips_isa.specs.declared.Next.{Next}
 use Rattle.mips_isa.specs.Steps.{next_of}
 use Rattle.access_log.specs.declared.Core.{Core}
 use Rattle.access_log.specs.declared.Entry.{Entry}
@@ -21,13 +19,13 @@ use Rattle.seq_machine.specs.declared.Reach.{Reach}
 use Rattle.seq_machine.specs.declared.Reach.TheVariants.{There, AccessAt, StopAt, Passed}
 use Rattle.seq_machine.specs.Reaching.{Reaches, CatchesUp}
 use Rattle.seq_machine.proofs.ReachingLaws.{access_not_quiet, stop_not_quiet}
-use Rattle.timetable.specs.declared.CoreEnd.{CoreEnd}
-use Rattle.report_rows.specs.Ends.{EndValue, end_value}
+use Rattle.report_rows.specs.Ends.{EndValue}
 use Rattle.report_text.specs.Counts.{at_entry}
 use Rattle.report_text.proofs.CountLaws.{count_by_at_entry}
-use Rattle.replayer.specs.declared.Difference.{Difference}
-use Rattle.replayer.specs.Judgments.{first_told, registers_judged}
-use Rattle.replayer.specs.Cores.{farthest, core_to, end_judged, core_judged}
+use Rattle.report_text.specs.Report.{ReportValue}
+use Rattle.row_check.specs.declared.difference.Difference.{Difference}
+use Rattle.row_check.specs.Judgments.{first_told}
+use Rattle.replayer.specs.Cores.{farthest, core_to, core_judged}
 use Rattle.replayer.proofs.RightCores.{core_of, farther, farthest-caught_up}
 
 -- the accesses of a core are counted among all items
@@ -123,20 +121,11 @@ stands cores index executed core state is state_is executed_is =
     same_Some core.executed executed (sym (ap (option_map (λ (c : Core). c.executed)) is) ∙ executed_is) in
     rw (← same_state, ← same_executed) refl
 
--- the end that is kept at an index
-pub kept_at : (ends : List CoreEnd) (index : ℕ) (ended : CoreEnd) (kept : EndValue) → ended ≡ get_or ends index ended
-    → slice_get (map end_value ends) index ≡ Some kept → end_value ended ≡ kept
-kept_at ends index ended kept is there =
-    let below : index < length ends = omega (arith, slice_get_within (map end_value ends) index kept there, length-map ends end_value) in
-    let got : slice_get ends index ≡ Some ended = slice_get_read ends (length ends) index ended refl below is in
-    same_Some (end_value ended) kept (sym (slice_get-map end_value ends index ∙ ap (option_map end_value) got) ∙ there)
-
--- they are judged by where it stands, in other words
-pub core_rows : (line budget : ℕ) (machine : FlatMachine) (kept other : EndValue) (accesses made : ℕ) (there core : Core) (next : Next)
-    (told : Option Difference)
-    → told ≡ first_told (end_judged line budget other (there.executed + accesses) there next
-    ++ registers_judged (line + 1) other.state.regs there.state.regs)
-    → other ≡ kept → accesses ≡ made → there ≡ core → next ≡ next_of machine.code (memory_bytes machine) there.state
-    → told ≡ first_told (core_judged line budget machine kept made core)
-core_rows line budget machine kept other accesses made there core next told is kept_is made_is core_is next_is =
-    rw (← kept_is, ← made_is, ← core_is) (rw next_is at is)
+-- what is told of its rows, in other words
+pub core_rows : (line core : ℕ) (told : Option Difference) (given report : ReportValue) (items : List Item) (kept other : EndValue)
+    (there core_there : Core)
+    → given ≡ report → items ≡ given.items → other ≡ kept → there ≡ core_there
+    → told ≡ first_told (core_judged line given.setup given.image core (own (entries items) core) other there)
+    → told ≡ first_told (core_judged line report.setup report.image core (own (entries report.items) core) kept core_there)
+core_rows line core told given report items kept other there core_there is items_are other_is there_is told_is =
+    rw (items_are, is, other_is, there_is) at told_is

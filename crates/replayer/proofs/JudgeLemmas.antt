@@ -5,8 +5,8 @@ use Rattle.std.specs.List.{range_with_len, slice_index}
 use Rattle.std.proofs.lemmas.List.{at_drop_more, drop_all}
 use Rattle.std.proofs.lemmas.List.FromFn.{get_or-map-range_with_len, length-map-range_with_len}
 use Rattle.access_log.specs.declared.field.Field.TheVariants as fields
-use Rattle.replayer.specs.declared.Difference.{Difference}
-use Rattle.replayer.specs.Judgments.{Judgment, told, number, word, first_told}
+use Rattle.row_check.specs.declared.difference.Difference.{Difference}
+use Rattle.row_check.specs.Judgments.{Judgment, told, number, word, first_told}
 
 abbrev step : Judgment → List Judgment → Bool → Option Difference
 step judgment more same = cond same (first_told more) (Some (told judgment))

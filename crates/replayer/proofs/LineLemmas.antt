@@ -16,7 +16,7 @@ use Rattle.report_rows.specs.Rows.{wait_count_rows, timed_row, rows_of_each, tim
 use Rattle.report_text.specs.Report.{ReportValue}
 use Rattle.report_text.specs.Text.{image_rows, rows_of_cores, rows_of_timetables, count_rows, run_rows, outcome_rows}
 use Rattle.report_text.specs.Text.{report_rows, report_text}
-use Rattle.replayer.specs.Outcome.{entries_line, cores_line, words_line, counts_line}
+use Rattle.replayer.specs.Outcome.{entries_line, cores_line, words_line, timetables_line, counts_line}
 
 -- ---- a row has a byte at least
 
@@ -97,6 +97,14 @@ cores_line_is report =
 
 pub words_line_is : (report : ReportValue) → words_line report ≡ cores_line report + 5 * length report.cores
 words_line_is report = omega (arith, length-append (run_rows report) (rows_of_cores 0 report.cores), length-cores 0 report.cores)
+
+pub timetables_line_is : (report : ReportValue) → timetables_line report ≡ words_line report + length report.words
+timetables_line_is report =
+    omega (
+      arith,
+      length-append (run_rows report ++ rows_of_cores 0 report.cores) (map memory_row report.words),
+      length-map report.words memory_row,
+    )
 
 pub counts_line_is : (report : ReportValue) → counts_line report ≡ words_line report + length report.words + timed_count report.cores
 counts_line_is report =

@@ -17,9 +17,9 @@ use Rattle.seq_machine.specs.Differences.{DiffersFirst, difference_of}
 use Rattle.seq_machine.proofs.ReachingLaws.{one_answer, CatchesUp-core}
 use Rattle.seq_machine.proofs.EnteringLaws.{entered-away, entered-differs}
 use Rattle.report_text.specs.Report.{ReportValue}
-use Rattle.replayer.specs.declared.Difference.{Difference}
+use Rattle.row_check.specs.declared.difference.Difference.{Difference}
 use Rattle.replayer.specs.Difference.{EntryDiffers, OutcomeDiffers, IsDifference}
-use Rattle.replayer.specs.Judgments.{first_told}
+use Rattle.row_check.specs.Judgments.{first_told}
 use Rattle.replayer.specs.Outcome.{machine_of, entries_line, outcome_judged}
 
 -- ---- an entry that differs isn't made, and differs in one way

@@ -1,62 +1,95 @@
--- No judgment of a core's rows differs exactly where it ended rightly, in the state that is due.
-use Rattle.std.proofs.Common.{◌≡◌, ℕ, ◌+◌, ◌<◌, ◌≤◌, true, List, ◌++◌, length, refl, sym, ap, ◌∙◌}
-use Rattle.std.specs.Prelude.{◌==◌, nat_le, nat_lt}
+-- No judgment of a core's rows differs exactly where it ended by its timing, in the state that is due.
+use Rattle.std.proofs.Common.{◌≡◌, ℕ, ◌+◌, ◌<◌, ◌≤◌, true, List, length, refl, sym, ap, ◌∙◌}
+use Rattle.std.specs.Prelude.{Some, nat_le, nat_lt}
 use Rattle.std.proofs.lemmas.Bool.{eqb-true, eq-eqb, and_parts, and_from, leb-true, le-leb, lt-leb, ltb-true, lt-ltb}
+use Rattle.std.proofs.lemmas.Option.{same_Some}
 use Rattle.std_laws.proofs.ListLaws.{AllByRecursion-append, AllByRecursion-parts}
+use Rattle.kmp_base.specs.declared.setup.Setup.{Setup}
+use Rattle.kmp_base.specs.declared.setup.MachineKind.{MachineKind}
 use Rattle.mips_isa.specs.declared.CoreState.{CoreState}
 use Rattle.mips_isa.specs.declared.Next.{Next}
 use Rattle.mips_isa.specs.declared.Next.TheVariants.{Stops, Asks, Goes}
+use Rattle.mips_isa.specs.Steps.{next_of}
+use Rattle.image_file.specs.Value.{ImageValue, memory_bytes}
 use Rattle.access_log.specs.declared.Core.{Core}
+use Rattle.access_log.specs.declared.Entry.{Entry}
 use Rattle.timetable.specs.declared.End.{End}
 use Rattle.timetable.specs.declared.End.TheVariants.{Stopped, Spent}
-use Rattle.right_run.specs.Cycles.{plain_cycles, EndsRightly}
 use Rattle.report_rows.specs.Ends.{EndValue}
-use Rattle.replayer.specs.Judgments.{is_same_end, registers_judged}
-use Rattle.replayer.specs.Cores.{due_end, may_be_spent, due_cycles, end_judged}
-use Rattle.replayer.proofs.RightJudgments.{Agree, registers_same, registers_agree, stop_is, stop_same, Agrees}
+use Rattle.row_check.specs.Judgments.{is_same_end, is_same_optional}
+use Rattle.row_check.proofs.JudgmentLaws.{Agree, Agrees, stop_is, stop_same, optional_is, optional_same}
+use Rattle.replayer.specs.declared.ends.Timing.{Timing}
+use Rattle.replayer.specs.Lists.{registers_judged}
+use Rattle.replayer.specs.Cores.{due_end, may_be_spent, due_cycles, timing_on, end_judged, core_judged}
+use Rattle.replayer.proofs.RightJudgments.{registers_same, registers_agree}
+use Rattle.replayer.proofs.RightCores.{core_of}
+
+-- Stopped: this stop comes next, and it took the cycles. Spent: all cycles of the budget are gone, no more were used, and what comes
+-- next would not be done within them.
+abbrev pub EndsBy : End → ℕ → ℕ → Timing → Next → Type 0
+EndsBy (Stopped stop) budget cycles timing next = (next ≡ Stops stop) × (timing.stopped ≡ Some cycles)
+EndsBy Spent budget cycles timing next = (cycles ≡ budget) × (timing.used ≤ budget) × (budget < timing.done)
 
 -- an end, judged
-record EndAgrees (budget cycles used : ℕ) (kept : End) (next : Next) : Type 0 where
-  pub end : is_same_end kept (due_end budget used kept next) ≡ true
-  pub allowed : may_be_spent budget used kept next ≡ true
-  pub cycles_are : (cycles == due_cycles budget used kept) ≡ true
+record EndAgrees (budget cycles : ℕ) (timing : Timing) (kept : End) (next : Next) : Type 0 where
+  pub end : is_same_end kept (due_end budget timing.done kept next) ≡ true
+  pub allowed : may_be_spent budget timing kept ≡ true
+  pub cycles_are : is_same_optional (Some cycles) (due_cycles budget timing.stopped kept) ≡ true
 
-end_right : (budget cycles used : ℕ) (kept : End) (next : Next) → cycles ≤ budget → EndAgrees budget cycles used kept next
-    → EndsRightly kept budget cycles used next
-end_right budget cycles used (Stopped stop) (Stops due) within h =
-    (ap Stops (sym (stop_is stop due h.end)), eqb-true cycles (used + 1) h.cycles_are, within)
-end_right budget cycles used (Stopped stop) (Goes state) within h = (let e = h.end in cc)
-end_right budget cycles used (Stopped stop) (Asks access) within h = (let e = h.end in cc)
-end_right budget cycles used Spent next within h =
-    let may = and_parts (nat_le used budget) (nat_lt budget (used + plain_cycles next)) h.allowed in
-    (eqb-true cycles budget h.cycles_are, leb-true used budget may.0, ltb-true budget (used + plain_cycles next) may.1)
+ends_by : (budget cycles : ℕ) (timing : Timing) (kept : End) (next : Next) → EndAgrees budget cycles timing kept next
+    → EndsBy kept budget cycles timing next
+ends_by budget cycles timing (Stopped stop) (Stops due) h =
+    (ap Stops (sym (stop_is stop due h.end)), sym (optional_is (Some cycles) timing.stopped h.cycles_are))
+ends_by budget cycles timing (Stopped stop) (Goes state) h = (let e = h.end in cc)
+ends_by budget cycles timing (Stopped stop) (Asks access) h = (let e = h.end in cc)
+ends_by budget cycles timing Spent next h =
+    let may = and_parts (nat_le timing.used budget) (nat_lt budget timing.done) h.allowed in (
+      same_Some cycles budget (optional_is (Some cycles) (Some budget) h.cycles_are),
+      leb-true timing.used budget may.0,
+      ltb-true budget timing.done may.1,
+    )
 
-spent_due : (budget used : ℕ) (next : Next) → budget < used + plain_cycles next → is_same_end Spent (due_end budget used Spent next) ≡ true
-spent_due budget used (Stops stop) late = rw (lt-leb (used + 1) budget late) refl
-spent_due budget used (Goes state) late = refl
-spent_due budget used (Asks access) late = refl
+spent_due : (budget done : ℕ) (next : Next) → budget < done → is_same_end Spent (due_end budget done Spent next) ≡ true
+spent_due budget done (Stops stop) late = rw (lt-leb done budget late) refl
+spent_due budget done (Goes state) late = refl
+spent_due budget done (Asks access) late = refl
 
-end_agrees : (budget cycles used : ℕ) (kept : End) (next : Next) → EndsRightly kept budget cycles used next
-    → EndAgrees budget cycles used kept next
-end_agrees budget cycles used (Stopped stop) next right = record {
-  end = ap (λ n. is_same_end (Stopped stop) (due_end budget used (Stopped stop) n)) right.0 ∙ stop_same stop;
+end_agrees : (budget cycles : ℕ) (timing : Timing) (kept : End) (next : Next) → EndsBy kept budget cycles timing next
+    → EndAgrees budget cycles timing kept next
+end_agrees budget cycles timing (Stopped stop) next by = record {
+  end = ap (λ n. is_same_end (Stopped stop) (due_end budget timing.done (Stopped stop) n)) by.0 ∙ stop_same stop;
   allowed = refl;
-  cycles_are = eq-eqb cycles (used + 1) right.1;
+  cycles_are = optional_same (Some cycles) timing.stopped (sym by.1);
 }
-end_agrees budget cycles used Spent next right = record {
-  end = spent_due budget used next right.2;
-  allowed = and_from (nat_le used budget) (nat_lt budget (used + plain_cycles next)) (le-leb used budget right.1)
-      (lt-ltb budget (used + plain_cycles next) right.2);
-  cycles_are = eq-eqb cycles budget right.0;
+end_agrees budget cycles timing Spent next by = record {
+  end = spent_due budget timing.done next by.2;
+  allowed = and_from (nat_le timing.used budget) (nat_lt budget timing.done) (le-leb timing.used budget by.1)
+      (lt-ltb budget timing.done by.2);
+  cycles_are = optional_same (Some cycles) (Some budget) (ap (λ n. Some n) by.0);
 }
 
 -- ---- the rows of a core
 
--- its end is right, where it stands there and this comes next
-pub record IsRightEnd (budget : ℕ) (kept : EndValue) (accesses : ℕ) (next : Next) (there : Core) : Type 0 where
+-- what a core that stands there does next, and what its end is judged by
+abbrev pub next_there : ImageValue → Core → Next
+next_there image there = next_of image.code (memory_bytes image) there.state
+
+abbrev pub timing_there : MachineKind → Setup → ImageValue → ℕ → List Entry → EndValue → Core → Timing
+timing_there machine setup image core accesses kept there =
+    timing_on machine image core setup.cores accesses kept there (next_there image there)
+
+-- On a machine, the end of a core is as it is due where it stands there.
+pub record IsAsDue (machine : MachineKind) (setup : Setup) (image : ImageValue) (core : ℕ) (accesses : List Entry) (kept : EndValue)
+    (there : Core) : Type 0 where
   pub retired : kept.retired ≡ there.executed
-  pub ends : EndsRightly kept.end budget kept.cycles (there.executed + accesses) next
   pub state : kept.state ≡ there.state
+  pub ends : EndsBy kept.end setup.budget kept.cycles (timing_there machine setup image core accesses kept there) (next_there image there)
+  pub rows : length kept.rows ≡ (timing_there machine setup image core accesses kept there).rows
+
+-- so it stands where the row says
+pub core_is : {machine : MachineKind} {setup : Setup} {image : ImageValue} {core : ℕ} {accesses : List Entry} {kept : EndValue}
+    {there : Core} → IsAsDue machine setup image core accesses kept there → core_of kept.retired kept.state ≡ there
+core_is {kept = kept} {there = there} is = ap (λ n. core_of n kept.state) is.retired ∙ ap (core_of there.executed) is.state
 
 state_is : (a b : CoreState) → a.pc ≡ b.pc → a.dpc ≡ b.dpc → a.regs ≡ b.regs → a ≡ b
 state_is a b pc dpc regs =
@@ -65,48 +98,35 @@ state_is a b pc dpc regs =
     make : ℕ → ℕ → List ℕ → CoreState
     make n m rs = record { pc = n; dpc = m; regs = rs }
 
-pub is_right_end : (line budget : ℕ) (kept : EndValue) (accesses : ℕ) (next : Next) (there : Core) → kept.cycles ≤ budget
-    → length kept.state.regs ≡ 32 → length there.state.regs ≡ 32
-    → Agree (end_judged line budget kept (there.executed + accesses) there next
-    ++ registers_judged (line + 1) kept.state.regs there.state.regs) → IsRightEnd budget kept accesses next there
-is_right_end line budget kept accesses next there within kept_has there_has all =
-    let parts = AllByRecursion-parts Agrees (end_judged line budget kept (there.executed + accesses) there next)
-    (registers_judged (line + 1) kept.state.regs there.state.regs) all in
-    let row = parts.0 in
-    record {
-      retired = eqb-true kept.retired there.executed row.0;
-      ends = end_right budget kept.cycles (there.executed + accesses) kept.end next within
-          (record { end = row.1.0; allowed = row.1.1.0; cycles_are = row.1.1.1.0 });
-      state = state_is kept.state there.state
-          (eqb-true kept.state.pc there.state.pc row.1.1.1.1.0)
-          (eqb-true kept.state.dpc there.state.dpc row.1.1.1.1.1.0)
-          (registers_same (line + 1) kept.state.regs there.state.regs kept_has there_has parts.1);
-    }
+module _ (line : ℕ) (setup : Setup) (image : ImageValue) (core : ℕ) (accesses : List Entry) (kept : EndValue) (there : Core) where
+  abbrev timing : Timing
+  timing = timing_there setup.machine setup image core accesses kept there
 
-pub right_end_agrees : (line budget : ℕ) (kept : EndValue) (accesses : ℕ) (next : Next) (there : Core)
-    → IsRightEnd budget kept accesses next there
-    → Agree (end_judged line budget kept (there.executed + accesses) there next
-    ++ registers_judged (line + 1) kept.state.regs there.state.regs)
-right_end_agrees line budget kept accesses next there right =
-    let ends = end_agrees budget kept.cycles (there.executed + accesses) kept.end next right.ends in
-    AllByRecursion-append Agrees (end_judged line budget kept (there.executed + accesses) there next)
-    (registers_judged (line + 1) kept.state.regs there.state.regs) (
-      eq-eqb kept.retired there.executed right.retired,
-      (
-        ends.end,
-        (
-          ends.allowed,
-          (
-            ends.cycles_are,
-            (
-              eq-eqb kept.state.pc there.state.pc (ap (λ (s : CoreState). s.pc) right.state),
-              (
-                eq-eqb kept.state.dpc there.state.dpc (ap (λ (s : CoreState). s.dpc) right.state),
-                tt,
-              ),
-            ),
-          ),
-        ),
-      ),
-    )
-    (registers_agree (line + 1) kept.state.regs there.state.regs (ap (λ (s : CoreState). s.regs) right.state))
+  pub is_as_due : length kept.state.regs ≡ 32 → length there.state.regs ≡ 32
+      → Agree (core_judged line setup image core accesses kept there) → IsAsDue setup.machine setup image core accesses kept there
+  is_as_due kept_has there_has all =
+      let parts = AllByRecursion-parts Agrees (end_judged line setup.budget kept timing there (next_there image there))
+      (registers_judged (line + 1) kept.state.regs there.state.regs) all in
+      let row = parts.0 in
+      record {
+        retired = eqb-true kept.retired there.executed row.0;
+        state = state_is kept.state there.state
+            (eqb-true kept.state.pc there.state.pc row.1.1.1.1.1.0)
+            (eqb-true kept.state.dpc there.state.dpc row.1.1.1.1.1.1.0)
+            (registers_same (line + 1) kept.state.regs there.state.regs kept_has there_has parts.1);
+        ends = ends_by setup.budget kept.cycles timing kept.end (next_there image there)
+            (record { end = row.1.0; allowed = row.1.1.0; cycles_are = row.1.1.1.0 });
+        rows = eqb-true (length kept.rows) timing.rows row.1.1.1.1.0;
+      }
+
+  pub as_due_agrees : IsAsDue setup.machine setup image core accesses kept there
+      → Agree (core_judged line setup image core accesses kept there)
+  as_due_agrees due =
+      let ends = end_agrees setup.budget kept.cycles timing kept.end (next_there image there) due.ends in
+      let pc = eq-eqb kept.state.pc there.state.pc (ap (λ (s : CoreState). s.pc) due.state) in
+      let dpc = eq-eqb kept.state.dpc there.state.dpc (ap (λ (s : CoreState). s.dpc) due.state) in
+      let rows = eq-eqb (length kept.rows) timing.rows due.rows in
+      AllByRecursion-append Agrees (end_judged line setup.budget kept timing there (next_there image there))
+      (registers_judged (line + 1) kept.state.regs there.state.regs)
+      (eq-eqb kept.retired there.executed due.retired, (ends.end, (ends.allowed, (ends.cycles_are, (rows, (pc, (dpc, tt)))))))
+      (registers_agree (line + 1) kept.state.regs there.state.regs (ap (λ (s : CoreState). s.regs) due.state))

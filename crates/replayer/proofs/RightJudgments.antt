@@ -1,37 +1,14 @@
--- No difference is told exactly where all judgments agree, and then what is kept is what is due.
-use Rattle.std.proofs.Common.{◌≡◌, ℕ, zero, suc, ◌+◌, ◌/◌, ◌<◌, Bool, true, false, cond, List, [], ◌∷◌, length, refl, sym, ap, ◌∙◌, arith}
-use Rattle.std.specs.Prelude.{◌==◌, map, slice_index, Some, None}
-use Rattle.std.specs.List.{AllByRecursion, range_with_len}
+-- Where all judgments of a list of numbers or of words agree, what is kept is what is due.
+use Rattle.std.proofs.Common.{◌≡◌, ℕ, zero, suc, ◌+◌, ◌/◌, ◌<◌, true, List, [], ◌∷◌, length, refl, sym, ap, ◌∙◌, arith}
+use Rattle.std.specs.Prelude.{◌==◌, map, slice_index}
+use Rattle.std.specs.List.{range_with_len}
 use Rattle.std.proofs.lemmas.Bool.{eqb-true, eq-eqb, and_parts, and_from}
 use Rattle.std.proofs.lemmas.Grind.{same_number_lists}
-use Rattle.std.proofs.lemmas.Option.{none-some}
-use Rattle.mips_isa.specs.declared.Stop.{Stop}
-use Rattle.mips_isa.specs.declared.Stop.TheVariants.{OffCode, Halt, Misaligned, Outside, CodeWrite}
 use Rattle.access_log.specs.declared.field.Field.TheVariants as fields
 use Rattle.report_rows.specs.declared.MemoryWord.{MemoryWord}
-use Rattle.replayer.specs.Judgments.{Judgment, number, word, told, first_told, is_same_stop, counts_judged, registers_judged}
-use Rattle.replayer.specs.Judgments.{is_same_memory_word, words_judged}
-
-abbrev pub Agrees : Judgment → Type 0
-Agrees judgment = judgment.same ≡ true
-
-abbrev pub Agree : List Judgment → Type 0
-Agree judgments = AllByRecursion Agrees judgments
-
-none_step : (judgment : Judgment) (more : List Judgment) (same : Bool) → cond same (first_told more) (Some (told judgment)) ≡ None
-    → (same ≡ true) × (first_told more ≡ None)
-none_step judgment more true none = (refl, none)
-none_step judgment more false none = absurd (none-some (told judgment) (sym none))
-
-pub agree : (judgments : List Judgment) → first_told judgments ≡ None → Agree judgments
-agree [] none = tt
-agree (judgment ∷ more) none =
-    let step = none_step judgment more judgment.same none in
-    (step.0, agree more step.1)
-
-pub none_differs : (judgments : List Judgment) → Agree judgments → first_told judgments ≡ None
-none_differs [] all = refl
-none_differs (judgment ∷ more) all = ap (λ same. cond same (first_told more) (Some (told judgment))) all.0 ∙ none_differs more all.1
+use Rattle.row_check.specs.Judgments.{Judgment, number, word}
+use Rattle.row_check.proofs.JudgmentLaws.{Agree}
+use Rattle.replayer.specs.Lists.{counts_judged, registers_judged, is_same_memory_word, words_judged}
 
 -- ---- numbers, each with its index
 
@@ -110,20 +87,3 @@ words_same line (word ∷ kept) (next ∷ due) all =
 pub words_agree : (line : ℕ) (words : List MemoryWord) → Agree (words_judged line words words)
 words_agree line [] = tt
 words_agree line (word ∷ words) = (memory_word_same word, words_agree (line + 1) words)
-
--- ---- stops
-
-pub stop_is : (a b : Stop) → is_same_stop a b ≡ true → a ≡ b
-stop_is OffCode OffCode same = refl
-stop_is Halt Halt same = refl
-stop_is Misaligned Misaligned same = refl
-stop_is Outside Outside same = refl
-stop_is CodeWrite CodeWrite same = refl
-stop_is a b same = cc
-
-pub stop_same : (stop : Stop) → is_same_stop stop stop ≡ true
-stop_same OffCode = refl
-stop_same Halt = refl
-stop_same Misaligned = refl
-stop_same Outside = refl
-stop_same CodeWrite = refl

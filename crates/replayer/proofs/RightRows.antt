@@ -1,149 +1,154 @@
--- No judgment of the rows of all cores differs exactly where each core catches up to its row and ended rightly there.
+-- No judgment of the rows of all cores differs exactly where each core catches up to its row and its end is as due there.
 use Rattle.std.proofs.Common.{◌≡◌, ℕ, zero, suc, ◌+◌, ◌-◌, List, [], ◌∷◌, length, refl, sym, ap, ◌∙◌, subst, arith}
 use Rattle.std.specs.Prelude.{Some, map, slice_get}
 use Rattle.std.specs.List.{AllByRecursion}
 use Rattle.std.proofs.lemmas.Option.{none-some, same_Some}
 use Rattle.std_laws.proofs.ListLaws.{AllByRecursion-append, AllByRecursion-parts}
-use Rattle.mips_isa.specs.Steps.{next_of}
+use Rattle.kmp_base.specs.declared.setup.Setup.{Setup}
+use Rattle.image_file.specs.Value.{ImageValue}
 use Rattle.access_log.specs.declared.Core.{Core}
 use Rattle.access_log.specs.declared.Entry.{Entry}
 use Rattle.access_log.specs.Replay.{FlatMachine, memory_bytes, own}
 use Rattle.timetable.specs.declared.CoreEnd.{CoreEnd}
-use Rattle.right_run.specs.Cycles.{IsPlainEnd}
 use Rattle.timetable.specs.Outcome.{final_of}
 use Rattle.report_rows.specs.Bounds.{IsEnd}
 use Rattle.report_rows.specs.Ends.{EndValue, end_value}
+use Rattle.row_check.specs.Judgments.{Judgment}
+use Rattle.row_check.proofs.JudgmentLaws.{Agree, Agrees}
 use Rattle.replayer.specs.Cores.{core_to, core_judged, cores_judged}
-use Rattle.replayer.proofs.RightJudgments.{Agree, Agrees}
-use Rattle.replayer.proofs.RightEnds.{IsRightEnd, is_right_end, right_end_agrees}
+use Rattle.replayer.specs.Timetables.{timetable_judged, timetables_judged}
+use Rattle.replayer.proofs.RightEnds.{IsAsDue, core_is, is_as_due, as_due_agrees}
+use Rattle.replayer.proofs.RightMachines.{core_end}
 use Rattle.replayer.proofs.RightCores.{core_of, caught_up-farthest, farthest-caught_up}
 use Rattle.replayer.proofs.RightRegisters.{HasRegisters, farthest-registers}
 use Rattle.replayer.proofs.RightFinals.{AreCaughtUp}
 
--- The core at an index ended rightly, where it stands there.
-abbrev IsRightAt : ℕ → List ℕ → ℕ → List Entry → ℕ → EndValue → Core → Type 0
-IsRightAt budget code bytes order index kept there =
-    IsRightEnd budget kept (length (own order index)) (next_of code bytes there.state) there
-
--- Each core from an index on ended rightly, where these stand.
-abbrev pub EndRightly : ℕ → List ℕ → ℕ → List Entry → ℕ → List EndValue → List Core → Type 0
-EndRightly budget code bytes order index [] [] = Unit {0}
-EndRightly budget code bytes order index (kept ∷ ends) (there ∷ finals) =
-    IsRightAt budget code bytes order index kept there × EndRightly budget code bytes order (index + 1) ends finals
-EndRightly budget code bytes order index ends finals = ⊥
-
 abbrev pub retired_of : EndValue → ℕ
 retired_of kept = kept.retired
 
--- Each core from an index on catches up to its row, and ended rightly there.
-pub record AreRight (budget : ℕ) (machine : FlatMachine) (order : List Entry) (index : ℕ) (ends : List EndValue) (cores : List Core) : Type
-    0 where
-  pub finals : List Core
-  pub caught : AreCaughtUp machine.code (memory_bytes machine) (map retired_of ends) cores finals
-  pub right : EndRightly budget machine.code (memory_bytes machine) order index ends finals
+module _ (setup : Setup) (image : ImageValue) (order : List Entry) where
+  -- The end of the core at an index is as due, where it stands there.
+  abbrev pub IsDueAt : ℕ → EndValue → Core → Type 0
+  IsDueAt index kept there = IsAsDue setup.machine setup image index (own order index) kept there
 
-core_right : (line budget most : ℕ) (machine : FlatMachine) (order : List Entry) (index : ℕ) (kept : EndValue) (core : Core)
-    → IsEnd budget most kept
-    → HasRegisters core
-    → Agree (core_judged line budget machine kept (length (own order index)) (core_to machine kept.retired core))
-    → IsRightAt budget machine.code (memory_bytes machine) order index kept (core_to machine kept.retired core)
-core_right line budget most machine order index kept core is has all =
-    let there : Core = core_to machine kept.retired core in
-    is_right_end line budget kept (length (own order index)) (next_of machine.code (memory_bytes machine) there.state) there is.cycles
-    is.registers
-    (farthest-registers machine.code (memory_bytes machine) (kept.retired - core.executed) core has) all
+  -- The end of each core from an index on is as due, where these stand.
+  abbrev pub AreAsDue : ℕ → List EndValue → List Core → Type 0
+  AreAsDue index [] [] = Unit {0}
+  AreAsDue index (kept ∷ ends) (there ∷ finals) = IsDueAt index kept there × AreAsDue (index + 1) ends finals
+  AreAsDue index ends finals = ⊥
 
-pub cores_right : (line budget most : ℕ) (machine : FlatMachine) (order : List Entry) (index : ℕ) (ends : List EndValue) (cores : List Core)
-    → length ends ≡ length cores
-    → AllByRecursion (IsEnd budget most) ends → AllByRecursion HasRegisters cores
-    → Agree (cores_judged line budget machine order index ends cores) → AreRight budget machine order index ends cores
-cores_right line budget most machine order index [] [] same are have all = record { finals = []; caught = tt; right = tt }
-cores_right line budget most machine order index [] (core ∷ cores) same are have all = absurd (omega (arith, same))
-cores_right line budget most machine order index (kept ∷ ends) [] same are have all = absurd (omega (arith, same))
-cores_right line budget most machine order index (kept ∷ ends) (core ∷ cores) same are have all =
-    let there : Core = core_to machine kept.retired core in
-    let parts = AllByRecursion-parts Agrees (core_judged line budget machine kept (length (own order index)) there)
-    (cores_judged (line + 5) budget machine order (index + 1) ends cores) all in
-    let first = core_right line budget most machine order index kept core are.0 have.0 parts.0 in
-    let others = cores_right (line + 5) budget most machine order (index + 1) ends cores (omega (arith, same)) are.1 have.1 parts.1 in
-    record {
-      finals = there ∷ others.finals;
-      caught = (caught_up-farthest machine.code (memory_bytes machine) kept.retired core (sym first.retired), others.caught);
-      right = (first, others.right);
-    }
+  -- Each core from an index on catches up to its row, and its end is as due there.
+  pub record AreRight (machine : FlatMachine) (index : ℕ) (ends : List EndValue) (cores : List Core) : Type 0 where
+    pub finals : List Core
+    pub caught : AreCaughtUp machine.code (memory_bytes machine) (map retired_of ends) cores finals
+    pub due : AreAsDue index ends finals
 
-pub cores_agree : (line budget : ℕ) (machine : FlatMachine) (order : List Entry) (index : ℕ) (ends : List EndValue)
-    (cores finals : List Core)
-    → AreCaughtUp machine.code (memory_bytes machine) (map retired_of ends) cores finals
-    → EndRightly budget machine.code (memory_bytes machine) order index ends finals
-    → Agree (cores_judged line budget machine order index ends cores)
-cores_agree line budget machine order index [] [] [] caught right = tt
-cores_agree line budget machine order index (kept ∷ ends) (core ∷ cores) (final ∷ finals) caught right =
-    let there : core_to machine kept.retired core ≡ final =
-    farthest-caught_up machine.code (memory_bytes machine) kept.retired core final caught.0 in
-    let row : Agree (core_judged line budget machine kept (length (own order index)) final) =
-    right_end_agrees line budget kept (length (own order index)) (next_of machine.code (memory_bytes machine) final.state) final right.0 in
-    AllByRecursion-append Agrees (core_judged line budget machine kept (length (own order index)) (core_to machine kept.retired core))
-    (cores_judged (line + 5) budget machine order (index + 1) ends cores)
-    (subst (λ (c : Core). Agree (core_judged line budget machine kept (length (own order index)) c)) (sym there) row)
-    (cores_agree (line + 5) budget machine order (index + 1) ends cores finals caught.1 right.1)
-cores_agree line budget machine order index [] (core ∷ cores) finals caught right = absurd caught
-cores_agree line budget machine order index [] [] (final ∷ finals) caught right = absurd right
-cores_agree line budget machine order index (kept ∷ ends) [] finals caught right = absurd caught
-cores_agree line budget machine order index (kept ∷ ends) (core ∷ cores) [] caught right = absurd right
+  abbrev judged : ℕ → ℕ → EndValue → Core → List Judgment
+  judged line index kept there = core_judged line setup image index (own order index) kept there
 
--- ---- the same of an outcome
+  pub cores_right : (line most : ℕ) (machine : FlatMachine) (index : ℕ) (ends : List EndValue) (cores : List Core)
+      → length ends ≡ length cores
+      → AllByRecursion (IsEnd setup.budget most) ends → AllByRecursion HasRegisters cores
+      → Agree (cores_judged line setup image machine order index ends cores) → AreRight machine index ends cores
+  cores_right line most machine index [] [] same are have all = record { finals = []; caught = tt; due = tt }
+  cores_right line most machine index [] (core ∷ cores) same are have all = absurd (omega (arith, same))
+  cores_right line most machine index (kept ∷ ends) [] same are have all = absurd (omega (arith, same))
+  cores_right line most machine index (kept ∷ ends) (core ∷ cores) same are have all =
+      let there : Core = core_to machine kept.retired core in
+      let parts = AllByRecursion-parts Agrees (judged line index kept there)
+      (cores_judged (line + 5) setup image machine order (index + 1) ends cores) all in
+      let first = is_as_due line setup image index (own order index) kept there are.0.registers
+      (farthest-registers machine.code (memory_bytes machine) (kept.retired - core.executed) core have.0) parts.0 in
+      let others = cores_right (line + 5) most machine (index + 1) ends cores (omega (arith, same)) are.1 have.1 parts.1 in
+      record {
+        finals = there ∷ others.finals;
+        caught = (caught_up-farthest machine.code (memory_bytes machine) kept.retired core (sym first.retired), others.caught);
+        due = (first, others.due);
+      }
 
--- what a core leaves that ended so, without a timetable
-abbrev pub core_end : EndValue → CoreEnd
-core_end kept = record {
-  end = kept.end;
-  cycles = kept.cycles;
-  retired = kept.retired;
-  state = kept.state;
-  rows = record { rows = []; spare = 0 };
-}
+  pub cores_agree : (line : ℕ) (machine : FlatMachine) (index : ℕ) (ends : List EndValue) (cores finals : List Core)
+      → AreCaughtUp machine.code (memory_bytes machine) (map retired_of ends) cores finals
+      → AreAsDue index ends finals
+      → Agree (cores_judged line setup image machine order index ends cores)
+  cores_agree line machine index [] [] [] caught due = tt
+  cores_agree line machine index (kept ∷ ends) (core ∷ cores) (final ∷ finals) caught due =
+      let there : core_to machine kept.retired core ≡ final =
+      farthest-caught_up machine.code (memory_bytes machine) kept.retired core final caught.0 in
+      let row = as_due_agrees line setup image index (own order index) kept final due.0 in
+      AllByRecursion-append Agrees (judged line index kept (core_to machine kept.retired core))
+      (cores_judged (line + 5) setup image machine order (index + 1) ends cores)
+      (subst (λ (c : Core). Agree (judged line index kept c)) (sym there) row)
+      (cores_agree (line + 5) machine (index + 1) ends cores finals caught.1 due.1)
+  cores_agree line machine index [] (core ∷ cores) finals caught due = absurd caught
+  cores_agree line machine index [] [] (final ∷ finals) caught due = absurd due
+  cores_agree line machine index (kept ∷ ends) [] finals caught due = absurd caught
+  cores_agree line machine index (kept ∷ ends) (core ∷ cores) [] caught due = absurd due
 
-pub finals_are : (budget : ℕ) (code : List ℕ) (bytes : ℕ) (order : List Entry) (index : ℕ) (ends : List EndValue) (finals : List Core)
-    → EndRightly budget code bytes order index ends finals
-    → finals ≡ map final_of (map core_end ends)
-finals_are budget code bytes order index [] [] right = refl
-finals_are budget code bytes order index (kept ∷ ends) (there ∷ finals) right =
-    let core : there ≡ final_of (core_end kept) = ap (λ n. core_of n there.state) (sym right.0.retired)
-    ∙ ap (core_of kept.retired) (sym right.0.state) in
-    ap (λ c. c ∷ finals) core ∙ ap (λ (cs : List Core). final_of (core_end kept) ∷ cs)
-    (finals_are budget code bytes order (index + 1) ends finals right.1)
-finals_are budget code bytes order index ends finals right = absurd right
+  -- ---- where the cores stand then
 
--- what is told of a core that ended
-abbrev IsEndAt : ℕ → List ℕ → ℕ → List Entry → ℕ → CoreEnd → Type 0
-IsEndAt budget code bytes order index ended = IsPlainEnd budget (length (own order index)) (next_of code bytes ended.state) ended
+  pub finals_are : (index : ℕ) (ends : List EndValue) (finals : List Core) → AreAsDue index ends finals
+      → finals ≡ map final_of (map core_end ends)
+  finals_are index [] [] due = refl
+  finals_are index (kept ∷ ends) (there ∷ finals) due =
+      ap (λ c. c ∷ finals) (sym (core_is due.0))
+      ∙ ap (λ (cs : List Core). final_of (core_end kept) ∷ cs) (finals_are (index + 1) ends finals due.1)
+  finals_are index [] (there ∷ finals) due = absurd due
+  finals_are index (kept ∷ ends) [] due = absurd due
 
-pub ends_at : (budget : ℕ) (code : List ℕ) (bytes : ℕ) (order : List Entry) (index : ℕ) (ends : List EndValue) (finals : List Core)
-    → EndRightly budget code bytes order index ends finals
-    → (c : ℕ) (ended : CoreEnd) → slice_get (map core_end ends) c ≡ Some ended → IsEndAt budget code bytes order (index + c) ended
-    × (ended.rows.rows ≡ [])
-ends_at budget code bytes order index [] finals right c ended here = absurd (none-some ended here)
-ends_at budget code bytes order index (kept ∷ ends) [] right c ended here = absurd right
-ends_at budget code bytes order index (kept ∷ ends) (there ∷ finals) right zero ended here =
-    let e : index + 0 ≡ index = omega arith in
-    let is : core_end kept ≡ ended = same_Some (core_end kept) ended here in
-    let ends_so : IsEndAt budget code bytes order index (core_end kept) = rw (right.0.retired, right.0.state) right.0.ends in
-    rw (e, ← is) (ends_so, refl)
-ends_at budget code bytes order index (kept ∷ ends) (there ∷ finals) right (suc c) ended here =
-    let e : index + suc c ≡ index + 1 + c = omega arith in
-    rw e (ends_at budget code bytes order (index + 1) ends finals right.1 c ended here)
+  pub due_at : (index : ℕ) (ends : List EndValue) (finals : List Core) → AreAsDue index ends finals
+      → (c : ℕ) (kept : EndValue) → slice_get ends c ≡ Some kept → IsDueAt (index + c) kept (core_of kept.retired kept.state)
+  due_at index [] finals due c kept here = absurd (none-some kept here)
+  due_at index (kept ∷ ends) [] due c other here = absurd due
+  due_at index (kept ∷ ends) (there ∷ finals) due zero other here =
+      let e : index + 0 ≡ index = omega arith in
+      rw (e, ← same_Some kept other here) (subst (IsDueAt index kept) (sym (core_is due.0)) due.0)
+  due_at index (kept ∷ ends) (there ∷ finals) due (suc c) other here =
+      let e : index + suc c ≡ index + 1 + c = omega arith in
+      rw e (due_at (index + 1) ends finals due.1 c other here)
 
-pub end_rightly : (budget : ℕ) (code : List ℕ) (bytes : ℕ) (order : List Entry) (index : ℕ) (cores : List CoreEnd)
-    → ((c : ℕ) (ended : CoreEnd) → slice_get cores c ≡ Some ended → IsEndAt budget code bytes order (index + c) ended)
-    → EndRightly budget code bytes order index (map end_value cores) (map final_of cores)
-end_rightly budget code bytes order index [] each = tt
-end_rightly budget code bytes order index (ended ∷ cores) each =
-    let e : index + 0 ≡ index = omega arith in
-    let here : IsEndAt budget code bytes order index ended = rw e at (each zero ended refl) in
-    (record { retired = refl; ends = here; state = refl }, end_rightly budget code bytes order (index + 1) cores next)
-  where
-    next : (c : ℕ) (other : CoreEnd) → slice_get cores c ≡ Some other → IsEndAt budget code bytes order (index + 1 + c) other
-    next c other there =
-        let e : index + suc c ≡ index + 1 + c = omega arith in
-        rw e at (each (suc c) other there)
+  pub all_due : (index : ℕ) (cores : List CoreEnd)
+      → ((c : ℕ) (ended : CoreEnd) → slice_get cores c ≡ Some ended → IsDueAt (index + c) (end_value ended) (final_of ended))
+      → AreAsDue index (map end_value cores) (map final_of cores)
+  all_due index [] each = tt
+  all_due index (ended ∷ cores) each =
+      let e : index + 0 ≡ index = omega arith in
+      (rw e at (each zero ended refl), all_due (index + 1) cores next)
+    where
+      next : (c : ℕ) (other : CoreEnd) → slice_get cores c ≡ Some other → IsDueAt (index + 1 + c) (end_value other) (final_of other)
+      next c other there =
+          let e : index + suc c ≡ index + 1 + c = omega arith in
+          rw e at (each (suc c) other there)
+
+  -- ---- timetables
+
+  abbrev table : ℕ → ℕ → EndValue → List Judgment
+  table line index kept = timetable_judged line setup image index (own order index) kept
+
+  pub tables_parts : (line index : ℕ) (ends : List EndValue) → Agree (timetables_judged line setup image order index ends)
+      → (c : ℕ) (kept : EndValue) → slice_get ends c ≡ Some kept → (at : ℕ) × Agree (table at (index + c) kept)
+  tables_parts line index [] all c kept here = absurd (none-some kept here)
+  tables_parts line index (kept ∷ ends) all zero other here =
+      let e : index + 0 ≡ index = omega arith in
+      let parts = AllByRecursion-parts Agrees (table line index kept)
+      (timetables_judged (line + length kept.rows) setup image order (index + 1) ends) all in
+      (line, rw (e, ← same_Some kept other here) parts.0)
+  tables_parts line index (kept ∷ ends) all (suc c) other here =
+      let e : index + suc c ≡ index + 1 + c = omega arith in
+      let parts = AllByRecursion-parts Agrees (table line index kept)
+      (timetables_judged (line + length kept.rows) setup image order (index + 1) ends) all in
+      rw e (tables_parts (line + length kept.rows) (index + 1) ends parts.1 c other here)
+
+  pub tables_agree : (line index : ℕ) (ends : List EndValue)
+      → ((c : ℕ) (kept : EndValue) → slice_get ends c ≡ Some kept → (at : ℕ) → Agree (table at (index + c) kept))
+      → Agree (timetables_judged line setup image order index ends)
+  tables_agree line index [] each = tt
+  tables_agree line index (kept ∷ ends) each =
+      let e : index + 0 ≡ index = omega arith in
+      AllByRecursion-append Agrees (table line index kept)
+      (timetables_judged (line + length kept.rows) setup image order (index + 1) ends) (rw e at (each zero kept refl line))
+      (tables_agree (line + length kept.rows) (index + 1) ends next)
+    where
+      next : (c : ℕ) (other : EndValue) → slice_get ends c ≡ Some other → (at : ℕ) → Agree (table at (index + 1 + c) other)
+      next c other there at =
+          let e : index + suc c ≡ index + 1 + c = omega arith in
+          rw e at (each (suc c) other there at)

@@ -1,18 +1,32 @@
 -- What is due in the rows of cores.
-use Rattle.std.specs.Prelude.{ℕ, zero, suc, ◌+◌, ◌-◌, Bool, true, ◌&&◌, nat_le, nat_lt, if◌then◌else◌, List, [], ◌∷◌, ◌++◌, length, Some}
-use Rattle.std.specs.Prelude.{None}
+use Rattle.std.specs.Prelude.{ℕ, zero, suc, ◌+◌, ◌-◌, Bool, true, ◌&&◌, nat_le, nat_lt, if◌then◌else◌, List, [], ◌∷◌, ◌++◌, length}
+use Rattle.std.specs.Prelude.{Option, Some, None}
+use Rattle.std.specs.Option.{option_map}
+use Rattle.kmp_base.specs.declared.setup.Setup.{Setup}
+use Rattle.kmp_base.specs.declared.setup.MachineKind.{MachineKind}
+use Rattle.kmp_base.specs.declared.setup.MachineKind.TheVariants.{Plain}
+use Rattle.mips_isa.specs.declared.Instr.{Instr}
 use Rattle.mips_isa.specs.declared.Next.{Next}
 use Rattle.mips_isa.specs.declared.Next.TheVariants.{Stops, Asks, Goes}
 use Rattle.mips_isa.specs.Steps.{next_of}
+use Rattle.image_file.specs.Value.{ImageValue, memory_bytes}
 use Rattle.access_log.specs.declared.Core.{Core}
 use Rattle.access_log.specs.declared.Entry.{Entry}
-use Rattle.access_log.specs.Replay.{FlatMachine, memory_bytes, quiet, own}
+use Rattle.access_log.specs.Replay.{FlatMachine, quiet, own}
+use Rattle.access_log.specs.Replay as replays
 use Rattle.access_log.specs.declared.field.Field.TheVariants as fields
 use Rattle.timetable.specs.declared.End.{End}
 use Rattle.timetable.specs.declared.End.TheVariants.{Stopped, Spent}
+use Rattle.timetable.specs.declared.rows.TimeRow.{TimeRow}
+use Rattle.timetable.specs.Recurrence.{last_where}
+use Rattle.timetable.specs.AtOnce.{first_m, past_at_once}
+use Rattle.timetable.specs.Trace.{instr_on}
 use Rattle.right_run.specs.Cycles.{plain_cycles}
+use Rattle.right_run.specs.Stages.{executed_by}
 use Rattle.report_rows.specs.Ends.{EndValue}
-use Rattle.replayer.specs.Judgments.{Judgment, number, word, end, allowed, registers_judged}
+use Rattle.row_check.specs.Judgments.{Judgment, number, optional, word, end, allowed}
+use Rattle.replayer.specs.declared.ends.Timing.{Timing}
+use Rattle.replayer.specs.Lists.{registers_judged}
 
 -- A core after at most so many instructions: it goes no further than to an access or a stop.
 unfoldable pub farthest : List ℕ → ℕ → ℕ → Core → Core
@@ -24,50 +38,77 @@ farthest code bytes (suc steps) core = elim (quiet (next_of code bytes core.stat
 
 -- A core of a machine that was to catch up to n executed instructions, as far as it comes.
 abbrev pub core_to : FlatMachine → ℕ → Core → Core
-core_to machine n core = farthest machine.code (memory_bytes machine) (n - core.executed) core
+core_to machine n core = farthest machine.code (replays.memory_bytes machine) (n - core.executed) core
 
--- ---- the end of an unpipelined core, by the cycles that it used and by what comes next
+-- ---- what the end of a core is judged by
+
+-- An unpipelined core that used so many cycles has no timetable. A stop takes a cycle.
+abbrev pub plain_timing : ℕ → Next → Timing
+plain_timing used next = record { used = used; done = used + plain_cycles next; stopped = Some (used + 1); rows = 0 }
+
+-- A stop has a row of its own.
+abbrev pub stop_rows : End → ℕ
+stop_rows (Stopped stop) = 1
+stop_rows Spent = 0
+
+-- A core with five stages that executed these instructions, and comes to this one next, has its cycles in its timetable.
+abbrev pub staged_timing : EndValue → ℕ → List (Option Instr) → Option Instr → Timing
+staged_timing kept executed instrs instr = record {
+  used = 0;
+  done = first_m (past_at_once [] instrs) instr;
+  stopped = option_map (λ (row : TimeRow). row.m) (last_where kept.rows);
+  rows = executed + stop_rows kept.end;
+}
+
+-- By the machine: of the core with a number, of so many, that made these accesses and stands there.
+abbrev pub timing_on : MachineKind → ImageValue → ℕ → ℕ → List Entry → EndValue → Core → Next → Timing
+timing_on Plain image core cores accesses kept there next = plain_timing (there.executed + length accesses) next
+timing_on machine image core cores accesses kept there next =
+    staged_timing kept there.executed (executed_by image core cores accesses there.executed) (instr_on image.code there.state.dpc)
+
+-- ---- its end
 
 -- The stop that comes next is due, and else that the budget is spent. A spent core may be at a stop that its budget didn't reach.
 abbrev pub due_end : ℕ → ℕ → End → Next → End
-due_end budget used Spent (Stops stop) = if nat_le (used + 1) budget then Stopped stop else Spent
-due_end budget used (Stopped kept) (Stops stop) = Stopped stop
-due_end budget used kept (Goes state) = Spent
-due_end budget used kept (Asks access) = Spent
+due_end budget done Spent (Stops stop) = if nat_le done budget then Stopped stop else Spent
+due_end budget done (Stopped kept) (Stops stop) = Stopped stop
+due_end budget done kept (Goes state) = Spent
+due_end budget done kept (Asks access) = Spent
 
 -- A spent core used no more than its budget, and what comes next would not be done within it.
-abbrev pub may_be_spent : ℕ → ℕ → End → Next → Bool
-may_be_spent budget used (Stopped stop) next = true
-may_be_spent budget used Spent next = nat_le used budget && nat_lt budget (used + plain_cycles next)
+abbrev pub may_be_spent : ℕ → Timing → End → Bool
+may_be_spent budget timing (Stopped stop) = true
+may_be_spent budget timing Spent = nat_le timing.used budget && nat_lt budget timing.done
 
--- A stop takes a cycle; a spent core took all of its budget.
-abbrev pub due_cycles : ℕ → ℕ → End → ℕ
-due_cycles budget used (Stopped stop) = used + 1
-due_cycles budget used Spent = budget
+-- A core that stopped took the cycle of its stop; a spent one took all of its budget.
+abbrev pub due_cycles : ℕ → Option ℕ → End → Option ℕ
+due_cycles budget stopped (Stopped stop) = stopped
+due_cycles budget stopped Spent = Some budget
 
 -- ---- the rows
 
--- The row of a core's end, by the cycles that it used, where it stands, and what comes next.
-abbrev pub end_judged : ℕ → ℕ → EndValue → ℕ → Core → Next → List Judgment
-end_judged line budget kept used there next =
+-- The row of a core's end, by its timing, where it stands, and what comes next.
+abbrev pub end_judged : ℕ → ℕ → EndValue → Timing → Core → Next → List Judgment
+end_judged line budget kept timing there next =
     number line fields.Retired kept.retired there.executed
-    ∷ end line kept.end (due_end budget used kept.end next)
-    ∷ allowed line fields.Retired kept.retired (may_be_spent budget used kept.end next)
-    ∷ number line fields.Cycles kept.cycles (due_cycles budget used kept.end)
+    ∷ end line kept.end (due_end budget timing.done kept.end next)
+    ∷ allowed line fields.Retired kept.retired (may_be_spent budget timing kept.end)
+    ∷ optional line fields.Cycles (Some kept.cycles) (due_cycles budget timing.stopped kept.end)
+    ∷ number line fields.Rows (length kept.rows) timing.rows
     ∷ word line fields.Pc kept.state.pc there.state.pc
     ∷ word line fields.Dpc kept.state.dpc there.state.dpc
     ∷ []
 
--- The five rows of a core that made so many accesses and stands there: it used a cycle for each instruction, and a second
--- one for each access.
-abbrev pub core_judged : ℕ → ℕ → FlatMachine → EndValue → ℕ → Core → List Judgment
-core_judged line budget machine kept accesses there =
-    end_judged line budget kept (there.executed + accesses) there (next_of machine.code (memory_bytes machine) there.state)
+-- The five rows of the core with a number that made these accesses and stands there.
+abbrev pub core_judged : ℕ → Setup → ImageValue → ℕ → List Entry → EndValue → Core → List Judgment
+core_judged line setup image core accesses kept there =
+    let next = next_of image.code (memory_bytes image) there.state in
+    end_judged line setup.budget kept (timing_on setup.machine image core setup.cores accesses kept there next) there next
     ++ registers_judged (line + 1) kept.state.regs there.state.regs
 
 -- The rows of the cores from a number on, from a line on, behind these accesses.
-abbrev pub cores_judged : ℕ → ℕ → FlatMachine → List Entry → ℕ → List EndValue → List Core → List Judgment
-cores_judged line budget machine order index (kept ∷ ends) (core ∷ cores) =
-    core_judged line budget machine kept (length (own order index)) (core_to machine kept.retired core)
-    ++ cores_judged (line + 5) budget machine order (index + 1) ends cores
-cores_judged line budget machine order index ends cores = []
+abbrev pub cores_judged : ℕ → Setup → ImageValue → FlatMachine → List Entry → ℕ → List EndValue → List Core → List Judgment
+cores_judged line setup image machine order index (kept ∷ ends) (core ∷ cores) =
+    core_judged line setup image index (own order index) kept (core_to machine kept.retired core)
+    ++ cores_judged (line + 5) setup image machine order (index + 1) ends cores
+cores_judged line setup image machine order index ends cores = []

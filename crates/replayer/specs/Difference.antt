@@ -10,10 +10,10 @@ use Rattle.access_log.specs.Replay.{FlatMachine, entered_all}
 use Rattle.seq_machine.specs.declared.Differs.{Differs}
 use Rattle.seq_machine.specs.Differences.{DiffersFirst, found_new}
 use Rattle.report_text.specs.Report.{ReportValue}
-use Rattle.replayer.specs.declared.Difference.{Difference}
+use Rattle.row_check.specs.declared.difference.Difference.{Difference}
 use Rattle.replayer.specs.declared.Verdict.{Verdict}
 use Rattle.replayer.specs.declared.Verdict.TheVariants as verdicts
-use Rattle.replayer.specs.Judgments.{first_told}
+use Rattle.row_check.specs.Judgments.{first_told}
 use Rattle.replayer.specs.Outcome.{entries_line, machine_of, outcome_judged}
 
 -- what an entry keeps in a field of its row

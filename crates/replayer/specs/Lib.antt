@@ -1,4 +1,5 @@
-pub mod Judgments
+pub mod Lists
 pub mod Cores
+pub mod Timetables
 pub mod Outcome
 pub mod Difference

@@ -7,11 +7,13 @@ use Rattle.report_rows.specs.Rows.{header_rows, memory_row}
 use Rattle.report_text.specs.Counts.{counts_of}
 use Rattle.report_text.specs.Report.{ReportValue, words_past}
 use Rattle.report_text.specs.Text.{image_rows, run_rows, rows_of_cores, rows_of_timetables}
-use Rattle.replayer.specs.Judgments.{Judgment, words_judged, counts_judged}
+use Rattle.row_check.specs.Judgments.{Judgment}
+use Rattle.replayer.specs.Lists.{words_judged, counts_judged}
 use Rattle.replayer.specs.Cores.{cores_judged}
+use Rattle.replayer.specs.Timetables.{timetables_judged}
 
--- The lines of the first access, of the first core, of the first memory word and of the first count: each is behind the
--- rows before it.
+-- The lines of the first access, of the first core, of the first memory word, of the first row of a timetable and of the first
+-- count: each is behind the rows before it.
 abbrev pub entries_line : ReportValue → ℕ
 entries_line report = length (header_rows report.setup ++ image_rows report.image) + 1
 
@@ -20,6 +22,9 @@ cores_line report = length (run_rows report) + 1
 
 abbrev pub words_line : ReportValue → ℕ
 words_line report = length (run_rows report ++ rows_of_cores 0 report.cores) + 1
+
+abbrev pub timetables_line : ReportValue → ℕ
+timetables_line report = length (run_rows report ++ rows_of_cores 0 report.cores ++ map memory_row report.words) + 1
 
 abbrev pub counts_line : ReportValue → ℕ
 counts_line report =
@@ -32,6 +37,7 @@ machine_of report = started report.image.code (start_memory report.image) (start
 -- All rows behind the accesses, in order, by the machine that made these.
 abbrev pub outcome_judged : ReportValue → FlatMachine → List Judgment
 outcome_judged report machine =
-    cores_judged (cores_line report) report.setup.budget machine (entries report.items) 0 report.cores machine.cores
+    cores_judged (cores_line report) report.setup report.image machine (entries report.items) 0 report.cores machine.cores
     ++ words_judged (words_line report) report.words (words_past (length report.image.code) machine.memory)
+    ++ timetables_judged (timetables_line report) report.setup report.image (entries report.items) 0 report.cores
     ++ counts_judged (counts_line report) report.counts (counts_of report.cores report.items)

@@ -1,92 +1,26 @@
 //! The rows of cores: where each ended, and its registers.
-ghost use Rattle.std.specs.Prelude.{◌≡◌, ◌+◌, ◌*◌, ◌^◌, ◌<◌, ◌≤◌, ◌-◌, ◌==◌, ◌++◌, Some, length, slice_get};
+ghost use Rattle.std.specs.Prelude.{◌≡◌, ◌+◌, ◌*◌, ◌^◌, ◌<◌, ◌≤◌, ◌-◌, ◌++◌, Some, length, slice_get};
 ghost use Rattle.mips_isa.specs.Steps.{next_of};
+ghost use Rattle.image_file.specs.Value.{memory_bytes};
 ghost use Rattle.access_log.specs.declared.Core.{Core};
 ghost use Rattle.access_log.specs.Items.{entries};
-ghost use Rattle.access_log.specs.Replay.{own, memory_bytes, with_core};
-ghost use Rattle.image_file.specs.Value.{memory_bytes as image_memory};
+ghost use Rattle.access_log.specs.Replay.{own, with_core};
 ghost use Rattle.report_rows.specs.Ends.{EndValue, end_value};
-ghost use Rattle.report_text.specs.Counts.{at_entry};
-ghost use Rattle.replayer.specs.Judgments.{first_told, registers_judged};
-ghost use Rattle.replayer.specs.Cores.{due_end, may_be_spent, due_cycles, end_judged, core_judged, cores_judged, core_to};
+ghost use Rattle.report_text.specs.Form.{IsReport};
+ghost use Rattle.row_check.specs.Judgments.{first_told};
+ghost use Rattle.replayer.specs.Lists.{registers_judged};
+ghost use Rattle.replayer.specs.Cores.{end_judged, core_judged, cores_judged, core_to};
 
 use crate::Difference;
-use crate::judgments::{end, number, refused, word};
+use crate::ends::{Timing, end_difference, timing_on};
 use access_log::{Core, Field, Item};
 use image_file::Image;
+use kmp_base::Setup;
 use mips_isa::{CoreState, Next, steps};
 use report_text::Report;
-use right_run::plain_cycles;
+use row_check::difference::{number, word};
 use seq_machine::Machine;
-use timetable::{CoreEnd, End};
-
-/// The end that is due, by the cycles that a core used and by what comes next.
-fn due_end(budget: u32, used: u64, kept: End, next: &Next) -> End
-    requires { used < 2 ^ 33 }
-    ensures { result ≡ due_end budget used kept next.now }
-{
-    match (kept, next) {
-        (_, Next::Goes(_) | Next::Asks(_)) => End::Spent,
-        (End::Spent, Next::Stops(_)) if used + 1 > u64::from(budget) => End::Spent,
-        (_, Next::Stops(stop)) => End::Stopped(*stop),
-    }
-}
-
-/// Whether a core that is told to be spent may be.
-fn may_be_spent(budget: u32, used: u64, kept: End, next: &Next) -> bool
-    requires { used < 2 ^ 33 }
-    ensures { result ≡ may_be_spent budget used kept next.now }
-{
-    let budget = u64::from(budget);
-    match kept {
-        End::Stopped(_) => true,
-        End::Spent => used <= budget && budget < used + u64::from(plain_cycles(next)),
-    }
-}
-
-/// The cycles that are due.
-fn due_cycles(budget: u32, used: u64, kept: End) -> u64
-    requires { used < 2 ^ 33 }
-    ensures { result ≡ due_cycles budget used kept }
-{
-    match kept {
-        End::Stopped(_) => used + 1,
-        End::Spent => u64::from(budget),
-    }
-}
-
-/// The first field that differs in the row of a core's end, by the cycles that it used and by what comes next.
-fn end_difference(
-    line: u32,
-    budget: u32,
-    kept: &CoreEnd,
-    used: u64,
-    there: &Core,
-    next: &Next,
-) -> Option<Difference>
-    requires { used < 2 ^ 33 }
-    ensures { result ≡ first_told (end_judged line budget (end_value kept.now) used there.now next.now) }
-{
-    let retired = u64::from(kept.retired);
-    let cycles = u64::from(kept.cycles);
-    let due = due_end(budget, used, kept.end, next);
-    let cycles_due = due_cycles(budget, used, kept.end);
-    if kept.retired != there.executed {
-        Some(number(line, Field::Retired, retired, u64::from(there.executed)))
-    } else if kept.end != due {
-        Some(end(line, kept.end, due))
-    } else if !may_be_spent(budget, used, kept.end, next) {
-        Some(refused(line, Field::Retired, retired))
-    } else if cycles != cycles_due {
-        Some(number(line, Field::Cycles, cycles, cycles_due))
-    } else if kept.state.pc != there.state.pc {
-        Some(word(line, Field::Pc, kept.state.pc, there.state.pc))
-    } else if kept.state.dpc != there.state.dpc {
-        Some(word(line, Field::Dpc, kept.state.dpc, there.state.dpc))
-    } else {
-        None
-    }
-}
+use timetable::CoreEnd;
 
 /// The first register that differs, in four rows from a line on.
 fn registers_difference(line: u32, kept: &CoreState, due: &CoreState) -> Option<Difference>
@@ -106,50 +40,56 @@ fn registers_difference(line: u32, kept: &CoreState, due: &CoreState) -> Option<
     None
 }
 
-/// The first field that differs in the five rows of a core that made so many accesses and stands there.
+/// The first field that differs in the five rows of a core, where it executed as many instructions as are kept.
 fn rows_difference(
     line: u32,
     budget: u32,
     kept: &CoreEnd,
-    accesses: u32,
+    timing: &Timing,
     there: &Core,
     next: &Next,
 ) -> Option<Difference>
-    requires { line < 2 ^ 32 - 5 }
-    ensures { result ≡ first_told (end_judged line budget (end_value kept.now) (there.now.executed + accesses) there.now next.now
+    requires line { line < 2 ^ 32 - 5 }
+    requires retired { kept.now.retired ≡ there.now.executed }
+    ensures { result ≡ first_told (end_judged line budget (end_value kept.now) timing.now there.now next.now
         ++ registers_judged (line + 1) kept.now.state.regs there.now.state.regs) }
 {
-    let used = u64::from(there.executed) + u64::from(accesses);
-    match end_difference(line, budget, kept, used, there, next) {
+    match end_difference(line, budget, kept, timing, there, next) {
         Some(difference) => Some(difference),
         None => registers_difference(line + 1, &kept.state, &there.state),
     }
 }
 
-/// Whether an item is an access of a core.
-fn is_own(item: &Item, core: u32) -> bool
-    ensures { result ≡ at_entry (λ entry. entry.core == core) item.now }
-{
-    match item {
-        Item::Done(entry) => entry.core == core,
-        Item::Bus(_) => false,
-    }
-}
-
-/// How many accesses a core made.
-#[tactic(auto, using(crate::proofs::CoreLemmas::accesses_counted))]
-fn accesses(items: &[Item], core: u32) -> u32
-    requires { length items.now < 2 ^ 32 }
-    ensures { result ≡ length (own (entries items.now) core) }
-{
-    items.iter().filter(|item| is_own(item, core)).count() as u32
-}
-
 /// What a core does next that runs the code of an image.
 fn next_in(image: &Image, state: &CoreState) -> Next
-    ensures { result ≡ next_of image.now.code (image_memory image.now) state.now }
+    ensures { result ≡ next_of image.now.code (memory_bytes image.now) state.now }
 {
     steps::next(&image.code, 8 * image.memory_lines, state)
+}
+
+/// The first field that differs in the five rows of a core that stands there.
+fn core_there_difference(
+    line: u32,
+    setup: &Setup,
+    image: &Image,
+    items: &[Item],
+    core: u32,
+    kept: &CoreEnd,
+    there: &Core,
+) -> Option<Difference>
+    requires line { line < 2 ^ 32 - 5 }
+    requires items { length items.now < 2 ^ 31 }
+    requires kept { kept.now.retired ≤ 100002 }
+    ensures { result ≡ first_told (core_judged line setup.now image.now core (own (entries items.now) core) (end_value kept.now) there.now) }
+{
+    if kept.retired != there.executed {
+        let retired = u64::from(kept.retired);
+        let executed = u64::from(there.executed);
+        return Some(number(line, Field::Retired, retired, executed));
+    }
+    let next = next_in(image, &there.state);
+    let timing = timing_on(setup, image, items, core, kept, there, &next);
+    rows_difference(line, setup.budget, kept, &timing, there, &next)
 }
 
 /// Lets a core catch up to its end in a report, as far as it comes, and compares its rows with it.
@@ -161,12 +101,11 @@ fn core_difference(
 ) -> Option<Difference>
     requires core { core < length machine.old.cores }
     requires kept { core < length report.now.cores }
-    requires items { length report.now.items < 2 ^ 32 }
+    requires form { IsReport report.now }
+    requires items { length report.now.items < 2 ^ 31 }
     requires line { line < 2 ^ 32 - 5 }
-    requires code { machine.old.code ≡ report.now.image.code }
-    requires memory { memory_bytes machine.old ≡ image_memory report.now.image }
     ensures first { (kept : EndValue) → (before : Core) → slice_get report.now.cores core ≡ Some kept → slice_get machine.old.cores core ≡ Some before
-        → result ≡ first_told (core_judged line report.now.setup.budget machine.old kept (length (own (entries report.now.items) core)) (core_to machine.old kept.retired before)) }
+        → result ≡ first_told (core_judged line report.now.setup report.now.image core (own (entries report.now.items) core) kept (core_to machine.old kept.retired before)) }
     ensures moved { (after : Core) × (machine.new ≡ with_core machine.old core after) }
 {
     let kept = &report.cores[core as usize];
@@ -175,9 +114,16 @@ fn core_difference(
         state: *machine.state_of(core),
         executed: machine.executed(core),
     };
-    let next = next_in(&report.image, &there.state);
-    let accesses = accesses(report.history.items(), core);
-    rows_difference(line, report.setup.budget, kept, accesses, &there, &next)
+    let items = report.history.items();
+    core_there_difference(
+        line,
+        &report.setup,
+        &report.image,
+        items,
+        core,
+        kept,
+        &there,
+    )
 }
 
 /// The first field that differs in the rows of the cores. The machine has made the accesses; its cores catch up to their
@@ -187,13 +133,11 @@ pub(crate) fn cores_difference(
     report: &Report,
     first_line: u32,
 ) -> Option<Difference>
+    requires form { IsReport report.now }
     requires cores { length machine.old.cores ≡ length report.now.cores }
-    requires setup { length report.now.cores ≡ report.now.setup.cores }
-    requires items { length report.now.items < 2 ^ 32 }
+    requires items { length report.now.items < 2 ^ 31 }
     requires line { first_line + 5 * length report.now.cores < 2 ^ 32 }
-    requires code { machine.old.code ≡ report.now.image.code }
-    requires memory { memory_bytes machine.old ≡ image_memory report.now.image }
-    ensures first { result ≡ first_told (cores_judged first_line report.now.setup.budget machine.old (entries report.now.items) 0 report.now.cores machine.old.cores) }
+    ensures first { result ≡ first_told (cores_judged first_line report.now.setup report.now.image machine.old (entries report.now.items) 0 report.now.cores machine.old.cores) }
     ensures memory { machine.new.memory ≡ machine.old.memory }
 {
     let mut line = first_line;

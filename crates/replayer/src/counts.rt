@@ -1,11 +1,12 @@
 //! The rows of counts.
 ghost use Rattle.std.specs.Prelude.{◌≡◌, ◌^◌, ◌<◌, ◌-◌};
-ghost use Rattle.replayer.specs.Judgments.{first_told, counts_judged};
+ghost use Rattle.row_check.specs.Judgments.{first_told};
+ghost use Rattle.replayer.specs.Lists.{counts_judged};
 
 use crate::Difference;
-use crate::judgments::number;
 use access_log::Field;
 use report_text::Counts;
+use row_check::difference::number;
 
 /// The first count that differs, one in a row from a line on.
 pub(crate) fn counts_difference(line: u32, kept: &Counts, due: &Counts) -> Option<Difference>

@@ -16,32 +16,23 @@ ghost use Rattle.replayer.specs.Difference.{IsDifference, IfDiffers};
 
 mod cores;
 mod counts;
+mod course;
+mod ends;
 mod entries;
 mod judgments;
 mod lines;
 mod outcome;
+mod timetables;
 mod words;
 
-use access_log::{Field, Found};
 use entries::entries_difference;
 use lines::entries_line;
 use outcome::outcome_difference;
 pub use report_text::NoMemory;
 use report_text::Report;
+pub use row_check::Difference;
 use seq_machine::Machine;
 use std::alloc::Global;
-
-/// The first field of a report that differs from what is due.
-#[derive(Clone, Copy)]
-pub struct Difference {
-    /// The number of its row, from 1.
-    pub line: u32,
-    pub field: Field,
-    /// What stands there.
-    pub kept: Found,
-    /// What is due.
-    pub found: Found,
-}
 
 /// What a check answers.
 #[derive(Clone, Copy)]
@@ -49,7 +40,7 @@ pub enum Verdict {
     /// The report is right.
     Agrees,
     /// It isn't, and this is the first field that differs. Rows are judged in their order, and the fields of a row in the
-    /// order of [`Field`]; whether a spent core may have retired so many instructions is judged behind its end.
+    /// order of [`access_log::Field`]; whether a spent core may have retired so many instructions is judged behind its end.
     Differs(Difference),
 }
 

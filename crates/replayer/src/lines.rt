@@ -1,7 +1,7 @@
 //! The lines at which the rows of a report begin.
 ghost use Rattle.std.specs.Prelude.{◌≡◌, ◌≤◌, length, sum_by};
 ghost use Rattle.report_text.specs.Text.{report_text};
-ghost use Rattle.replayer.specs.Outcome.{entries_line, cores_line, words_line, counts_line};
+ghost use Rattle.replayer.specs.Outcome.{entries_line, cores_line, words_line, timetables_line, counts_line};
 
 use image_file::image_size;
 use report_text::Report;
@@ -34,6 +34,15 @@ pub(crate) fn words_line(report: &Report) -> u32
     cores_line(report) + 5 * report.cores.len() as u32
 }
 
+/// The line of the first row of a timetable, behind the memory words.
+#[tactic(auto, using(crate::proofs::LineLemmas::timetables_line_is, crate::proofs::LineLemmas::counts_line_is, crate::proofs::LineLemmas::last_line))]
+pub(crate) fn timetables_line(report: &Report) -> u32
+    requires { length (report_text report.now) ≤ 268435456 }
+    ensures { result ≡ timetables_line report.now }
+{
+    words_line(report) + report.words.len() as u32
+}
+
 /// How many rows the timetables of cores have.
 fn timetable_rows(cores: &[CoreEnd]) -> u64
     requires few { length cores.now ≤ 8 }
@@ -42,12 +51,12 @@ fn timetable_rows(cores: &[CoreEnd]) -> u64
     cores.iter().map(|ended| u64::from(ended.rows.len())).sum()
 }
 
-/// The line of the first count, behind the memory words and the timetables.
+/// The line of the first count, behind the timetables.
 #[tactic(auto, using(crate::proofs::LineLemmas::counts_line_is, crate::proofs::LineLemmas::last_line))]
 pub(crate) fn counts_line(report: &Report) -> u32
     requires few { length report.now.cores ≤ 8 }
     requires size { length (report_text report.now) ≤ 268435456 }
     ensures { result ≡ counts_line report.now }
 {
-    words_line(report) + report.words.len() as u32 + timetable_rows(&report.cores) as u32
+    timetables_line(report) + timetable_rows(&report.cores) as u32
 }

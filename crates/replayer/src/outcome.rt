@@ -2,13 +2,14 @@
 ghost use Rattle.std.specs.Prelude.{◌≡◌, ◌*◌, ◌≤◌, length};
 ghost use Rattle.report_text.specs.Form.{IsReport};
 ghost use Rattle.report_text.specs.Text.{report_text};
-ghost use Rattle.replayer.specs.Judgments.{first_told};
+ghost use Rattle.row_check.specs.Judgments.{first_told};
 ghost use Rattle.replayer.specs.Outcome.{outcome_judged};
 
 use crate::Difference;
 use crate::cores::cores_difference;
 use crate::counts::counts_difference;
-use crate::lines::{cores_line, counts_line, words_line};
+use crate::lines::{cores_line, counts_line, timetables_line, words_line};
+use crate::timetables::timetables_difference;
 use crate::words::words_difference;
 use report_build::counts_of;
 use report_text::Report;
@@ -18,7 +19,6 @@ use seq_machine::Machine;
 pub(crate) fn outcome_difference(machine: &mut Machine, report: &Report) -> Option<Difference>
     requires form { IsReport report.now }
     requires size { length (report_text report.now) ≤ 268435456 }
-    requires code { machine.old.code ≡ report.now.image.code }
     requires cores { length machine.old.cores ≡ report.now.setup.cores }
     requires words { length machine.old.memory ≡ 2 * report.now.image.memory_lines }
     ensures { result ≡ first_told (outcome_judged report.now machine.old) }
@@ -28,6 +28,9 @@ pub(crate) fn outcome_difference(machine: &mut Machine, report: &Report) -> Opti
     }
     let line = words_line(report);
     if let Some(difference) = words_difference(machine, &report.image, &report.words, line) {
+        return Some(difference);
+    }
+    if let Some(difference) = timetables_difference(report, timetables_line(report)) {
         return Some(difference);
     }
     let due = counts_of(&report.cores, report.history.items());

@@ -1,7 +1,8 @@
 //! The rows of memory words.
 ghost use Rattle.std.specs.Prelude.{◌≡◌, ◌+◌, ◌*◌, ◌/◌, ◌^◌, ◌<◌, ◌≤◌, [], ◌∷◌, length, IfSome, IfNone};
 ghost use Rattle.report_text.specs.Report.{words_past};
-ghost use Rattle.replayer.specs.Judgments.{first_told, words_judged};
+ghost use Rattle.row_check.specs.Judgments.{first_told};
+ghost use Rattle.replayer.specs.Lists.{words_judged};
 
 use crate::Difference;
 use crate::judgments::{found_word, memory_word};

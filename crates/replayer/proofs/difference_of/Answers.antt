@@ -33,14 +33,6 @@ returns-in-Some-clause-some c =
     ∙ ap (λ (r : ReportValue). r.items) c.report.view_is in
     inl (rw (c.entries_line.ensures, items_are, c.requires.start) at c.in-Some.ensures.some)
 
-pub outcome_difference-requires-clause-code : goal.outcome_difference-requires-clause-code
-outcome_difference-requires-clause-code c =
-    let items_are : c.items-items.result.now ≡ c.args.report.now.items = c.items-items.ensures.items
-    ∙ ap (λ (r : ReportValue). r.items) c.report.view_is in
-    let made = made_all c.args.report.now c.items-items.result.now c.args.machine.now c.entries_difference.new.machine items_are
-    c.requires.start c.in_default.ensures.none in
-    (machine_fits c.args.report.now c.entries_difference.new.machine made).code_is
-
 pub outcome_difference-requires-clause-cores : goal.outcome_difference-requires-clause-cores
 outcome_difference-requires-clause-cores c =
     let items_are : c.items-items.result.now ≡ c.args.report.now.items = c.items-items.ensures.items

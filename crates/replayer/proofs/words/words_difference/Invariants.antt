@@ -1,6 +1,7 @@
 use Rattle.std.proofs.Common.{◌≡◌, ◌+◌, length, drop}
 use Rattle.report_text.specs.Report.{words_past}
-use Rattle.replayer.specs.Judgments.{first_told, words_judged}
+use Rattle.row_check.specs.Judgments.{first_told}
+use Rattle.replayer.specs.Lists.{words_judged}
 use Rattle.replayer.proofs.words.words_difference.Given as goal
 
 abbrev pub invariant-loop-word : goal.invariant-loop-word

@@ -1,0 +1,31 @@
+-- What is due in the timetables of cores.
+use Rattle.std.specs.Prelude.{ℕ, ◌+◌, Option, Some, None, List, [], ◌∷◌, ◌++◌, length}
+use Rattle.kmp_base.specs.declared.setup.Setup.{Setup}
+use Rattle.image_file.specs.Value.{ImageValue}
+use Rattle.access_log.specs.declared.Entry.{Entry}
+use Rattle.access_log.specs.Replay.{own}
+use Rattle.timetable.specs.declared.End.{End}
+use Rattle.timetable.specs.declared.End.TheVariants.{Stopped, Spent}
+use Rattle.timetable.specs.Trace.{instr_on}
+use Rattle.right_run.specs.Stages.{executed_by}
+use Rattle.report_rows.specs.Ends.{EndValue}
+use Rattle.row_check.specs.Judgments.{Judgment}
+use Rattle.row_check.specs.Rows.{rows_judged}
+
+-- The last cycle in which an instruction of a core may be done: a spent core had no more than its budget.
+abbrev pub limit_of : ℕ → End → Option ℕ
+limit_of budget (Stopped stop) = None
+limit_of budget Spent = Some budget
+
+-- The timetable of the core with a number that made these accesses.
+abbrev pub timetable_judged : ℕ → Setup → ImageValue → ℕ → List Entry → EndValue → List Judgment
+timetable_judged line setup image core accesses kept =
+    rows_judged line (limit_of setup.budget kept.end) [] (executed_by image core setup.cores accesses kept.retired)
+    (instr_on image.code kept.state.dpc) kept.rows
+
+-- Those of the cores from a number on, from a line on, behind these accesses.
+abbrev pub timetables_judged : ℕ → Setup → ImageValue → List Entry → ℕ → List EndValue → List Judgment
+timetables_judged line setup image order core [] = []
+timetables_judged line setup image order core (kept ∷ ends) =
+    timetable_judged line setup image core (own order core) kept
+    ++ timetables_judged (line + length kept.rows) setup image order (core + 1) ends

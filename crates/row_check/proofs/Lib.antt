@@ -1,0 +1,4 @@
+pub mod ClocksLemmas
+pub mod JudgmentLaws
+pub mod RowLemmas
+pub mod EndLaws

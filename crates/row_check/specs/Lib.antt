@@ -1,0 +1,4 @@
+pub mod Judgments
+pub mod Rows
+pub mod Clocks
+pub mod Worked
