@@ -10,7 +10,7 @@ use Rattle.report_read.specs.BadRow.{IsBadRow}
 use Rattle.workload_gen.specs.Source.{source_text}
 use Rattle.report_summary.specs.Summary.{summary_text}
 use Rattle.kmp_base.specs.declared.setup.Setup.{Setup}
-use Rattle.replayer.specs.declared.Difference.{Difference}
+use Rattle.row_check.specs.declared.difference.Difference.{Difference}
 use Rattle.replayer.specs.Difference.{IsDifference}
 use Rattle.kmp_words.specs.Input.{meaning_of}
 use Rattle.kmp_words.specs.Loaded.{image_in}

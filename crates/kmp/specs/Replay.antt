@@ -8,7 +8,7 @@ use Rattle.access_log.specs.declared.field.Found.TheVariants as founds
 use Rattle.mips_isa.specs.Names.{kind_name, stop_name}
 use Rattle.timetable.specs.declared.End.TheVariants as ends
 use Rattle.timetable.specs.Names.{end_name}
-use Rattle.replayer.specs.declared.Difference.{Difference}
+use Rattle.row_check.specs.declared.difference.Difference.{Difference}
 
 -- what stands in a field; `-` for none
 abbrev pub found_text : Found → List ℕ

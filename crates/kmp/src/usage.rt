@@ -9,7 +9,8 @@ usage: kmp run [OPTION ..] < SOURCE           runs an assembler source, and writ
        kmp trial [OPTION ..]                  runs a source that a seed draws, and writes a summary
 
 Options of run and trial:
-  --machine=plain    unpipelined cores over flat memory; so without it
+  --machine=pipe     cores with five stages over flat memory; so without it
+  --machine=plain    unpipelined cores over flat memory
   --cores=N          1 to 8 cores; without it 1
   --budget=N         1 to 100000 cycles for each core; without it 20000
   --turns=round      each core has a cycle in each round, by rising number; so without it

@@ -1,5 +1,5 @@
 -- The report of a right outcome.
-use Rattle.std.proofs.Common.{◌≡◌, ℕ, Result, Ok, Err, List, [], ◌∷◌, refl, ap, sym, subst}
+use Rattle.std.proofs.Common.{◌≡◌, Result, Ok, Err, List, [], ◌∷◌, refl, ap, subst}
 use Rattle.std.specs.Prelude.{IfOk, map}
 use Rattle.kmp_base.specs.declared.setup.Setup.{Setup}
 use Rattle.image_file.specs.Value.{ImageValue}
@@ -7,7 +7,7 @@ use Rattle.access_log.specs.Items.{entries}
 use Rattle.timetable.specs.declared.CoreEnd.{CoreEnd}
 use Rattle.timetable.specs.Outcome.{OutcomeValue}
 use Rattle.right_run.specs.Right.{IsRight}
-use Rattle.right_run.specs.Turns.{IsInTurns, cycles_of}
+use Rattle.right_run.specs.Turns.{IsInTurns, cycles_of, tables_of}
 use Rattle.report_rows.specs.Ends.{EndValue, end_value}
 use Rattle.report_text.specs.Report.{ReportValue, report_of}
 use Rattle.report_text.specs.Form.{IsReport}
@@ -24,9 +24,14 @@ told-cycles : (ends : List CoreEnd) → map (λ (core : EndValue). core.cycles) 
 told-cycles [] = refl
 told-cycles (ended ∷ ends) = ap (λ cycles. ended.cycles ∷ cycles) (told-cycles ends)
 
+-- So it does the timetable of each.
+told-tables : (ends : List CoreEnd) → map (λ (core : EndValue). core.rows) (map end_value ends) ≡ tables_of ends
+told-tables [] = refl
+told-tables (ended ∷ ends) = ap (λ tables. ended.rows.rows ∷ tables) (told-tables ends)
+
 -- The report of a right outcome is the one of a run.
 is_report_of : (setup : Setup) (image : ImageValue) (outcome : OutcomeValue) → IsRight setup image outcome
-    → IsInTurns setup (cycles_of outcome.cores) (entries outcome.items)
+    → IsInTurns setup (cycles_of outcome.cores) (tables_of outcome.cores) (entries outcome.items)
     → IsReport (report_of setup image outcome) → IsReportOf setup image (report_of setup image outcome)
 unfolding report_of
 is_report_of setup image outcome right turns form = record {
@@ -34,12 +39,13 @@ is_report_of setup image outcome right turns form = record {
   loaded = refl;
   right = is_right setup image outcome right;
   form = form;
-  turns = subst (λ (cycles : List ℕ). IsInTurns setup cycles (entries outcome.items)) (sym (told-cycles outcome.cores)) turns;
+  turns = rw (told-cycles outcome.cores, told-tables outcome.cores) turns;
 }
 
 pub reported : {E : Type 0} (setup : Setup) (image : ImageValue) (outcome : OutcomeValue) (result : Result ReportValue E)
     → IfOk result (λ report. report ≡ report_of setup image outcome) → IfOk result (λ report. IsRight setup image outcome → IsReport report)
-    → IsRight setup image outcome → IsInTurns setup (cycles_of outcome.cores) (entries outcome.items) → IfOk result (IsReportOf setup image)
+    → IsRight setup image outcome → IsInTurns setup (cycles_of outcome.cores) (tables_of outcome.cores) (entries outcome.items)
+    → IfOk result (IsReportOf setup image)
 reported setup image outcome (Ok report) is form right turns =
     rw is (is_report_of setup image outcome right turns (subst IsReport is (form right)))
 reported setup image outcome (Err fault) is form right turns = tt

@@ -16,4 +16,5 @@ pub record IsReportOf (setup : Setup) (image : ImageValue) (report : ReportValue
   pub right : IsRightReport report
   pub form : IsReport report
   -- Its accesses stand in the order of the cores' turns.
-  pub turns : IsInTurns setup (map (λ (core : EndValue). core.cycles) report.cores) (entries report.items)
+  pub turns : IsInTurns setup (map (λ (core : EndValue). core.cycles) report.cores) (map (λ (core : EndValue). core.rows) report.cores)
+      (entries report.items)

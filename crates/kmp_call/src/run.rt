@@ -1,10 +1,10 @@
 //! The report of a run, whatever engine and turns it went by.
 ghost use Rattle.std.specs.Prelude.{◌≡◌, ◌⊎◌, ◌*◌, length, Ok, IfOk};
 ghost use Rattle.kmp_base.specs.Limits.{IsWithinLimits};
-ghost use Rattle.kmp_base.specs.declared.setup.MachineKind.TheVariants as machines;
+ghost use Rattle.kmp_base.specs.Machines.{IsUncached};
 ghost use Rattle.access_log.specs.Items.{entries};
 ghost use Rattle.right_run.specs.Right.{IsRight};
-ghost use Rattle.right_run.specs.Turns.{IsInTurns, cycles_of};
+ghost use Rattle.right_run.specs.Turns.{IsInTurns, cycles_of, tables_of};
 ghost use Rattle.report_text.specs.Text.{report_text};
 ghost use Rattle.kmp_call.specs.Right.{IsReportOf};
 ghost use Rattle.kmp_call.specs.Status.{status_of};
@@ -27,9 +27,9 @@ pub fn report_run(
     ran: Result<Outcome, NoMemory>,
 ) -> Result<Report, NoMemory>
     requires limits { IsWithinLimits setup.now }
-    requires plain { setup.now.machine ≡ machines.Plain }
+    requires uncached { IsUncached setup.now.machine }
     requires right { IfOk ran (IsRight setup.now image) }
-    requires turns { IfOk ran (λ outcome. IsInTurns setup.now (cycles_of outcome.cores) (entries outcome.items)) }
+    requires turns { IfOk ran (λ outcome. IsInTurns setup.now (cycles_of outcome.cores) (tables_of outcome.cores) (entries outcome.items)) }
     requires cores { IfOk ran (λ outcome. length outcome.cores ≡ setup.now.cores) }
     requires words { IfOk ran (λ outcome. length outcome.words ≡ 2 * image.memory_lines) }
     ensures report { IfOk result (λ report. IsReportOf setup.now image report) }
@@ -54,9 +54,9 @@ pub fn write_run<K: Sink>(
     sink: &mut K,
 ) -> Status
     requires limits { IsWithinLimits setup.now }
-    requires plain { setup.now.machine ≡ machines.Plain }
+    requires uncached { IsUncached setup.now.machine }
     requires right { IfOk ran (IsRight setup.now image) }
-    requires turns { IfOk ran (λ outcome. IsInTurns setup.now (cycles_of outcome.cores) (entries outcome.items)) }
+    requires turns { IfOk ran (λ outcome. IsInTurns setup.now (cycles_of outcome.cores) (tables_of outcome.cores) (entries outcome.items)) }
     requires cores { IfOk ran (λ outcome. length outcome.cores ≡ setup.now.cores) }
     requires words { IfOk ran (λ outcome. length outcome.words ≡ 2 * image.memory_lines) }
     ensures written { Finishes K.held K.faults sink.old sink.new (IsRunDue setup.now (Ok image)) result ⊎ RunsOut sink.old sink.new result }

@@ -18,7 +18,7 @@ impl Gate for Counter {
     }
 }
 
-/// Each of three cores has the one cycle of its `halt`.
+/// Each of three cores has the four cycles of its `halt`, which passes four stages.
 #[test]
 fn the_gate_of_a_call_is_called(rt: HostRuntime) -> Result<(), Fail> {
     let alloc = rt.alloc();
@@ -30,6 +30,6 @@ fn the_gate_of_a_call_is_called(rt: HostRuntime) -> Result<(), Fail> {
     };
     let (ending, sink) = answer(&rt, alloc, &words, &mut source, sink, &gate);
     assert!(rt; matches!(ending.status, Status::Done) && sink.faults == 0);
-    assert!(rt; gate.calls.load(Ordering::SeqCst) == 3);
+    assert!(rt; gate.calls.load(Ordering::SeqCst) == 12);
     Ok(())
 }

@@ -9,7 +9,8 @@ Each core runs on a thread of its own, so the order of accesses is another one e
 writes images and checks reports, also those of kmp_mp.
 
 Options:
-  --machine=plain    unpipelined cores over flat memory; so without it
+  --machine=pipe     cores with five stages over flat memory; so without it
+  --machine=plain    unpipelined cores over flat memory
   --cores=N          1 to 8 cores; without it 1
   --budget=N         1 to 100000 cycles for each core; without it 20000
   --seed=N           0 to 4294967295, where what is drawn begins; without it 0

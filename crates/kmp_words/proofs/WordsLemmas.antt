@@ -2,6 +2,7 @@
 use Rattle.std.proofs.Common.{◌≡◌, ℕ, ◌+◌, ◌^◌, ◌<◌, ◌≤◌, Bool, true, false, List, Bor, length, get_or, drop, [], ◌∷◌, Option, Some, None}
 use Rattle.std.proofs.Common.{◌⊎◌, option_and_then, option_map, Result, Ok, Err, codes, decimal, refl, sym, subst, inl, inr, arith}
 use Rattle.kmp_base.specs.Limits.{IsWithinLimits}
+use Rattle.kmp_base.specs.Machines.{IsUncached}
 use Rattle.std.specs.Prelude.{IfSome, is_some, nat_lt, nat_le, ◌&&◌, if◌then◌else◌}
 use Rattle.std.specs.Str.{bytes_eq}
 use Rattle.std.specs.Str.Parse.{digits_value}
@@ -154,7 +155,7 @@ counts command word text options more is = let a =
 
 -- the values of options are within their bounds
 pub record AreProper (options : Options) : Type 0 where
-  pub machine_is : IfSome options.machine (λ machine. machine ≡ machines.Plain)
+  pub machine_is : IfSome options.machine IsUncached
   pub cores_are : IfSome options.cores (λ cores. (1 ≤ cores) × (cores ≤ 8))
   pub budget_is : IfSome options.budget (λ budget. (1 ≤ budget) × (budget ≤ 100000))
   pub turns_are : IfSome options.turns (AreTurnsOf programs.Kmp)
@@ -185,7 +186,7 @@ with_proper : (options more : Options) (name : OptionName) (word : ℕ) (value :
 with_proper options more names.Machine word (Some text) is before =
     let p = puts_of (λ kind. record options { machine = Some kind }) (named machine_names text) more is in
     rw p.puts (record {
-      machine_is = sym (cond_some _ machines.Plain p.it p.is).1;
+      machine_is = two_values _ _ machines.Plain machines.Pipe p.it p.is;
       cores_are = before.cores_are;
       budget_is = before.budget_is;
       turns_are = before.turns_are;
@@ -324,8 +325,8 @@ setup_limits options proper =
       ways = omega arith;
     }
 
-setup_plain : (options : Options) → AreProper options → (setup_of options).machine ≡ machines.Plain
-setup_plain options proper = meant (λ machine. machine ≡ machines.Plain) machines.Plain options.machine refl proper.machine_is
+setup_uncached : (options : Options) → AreProper options → IsUncached (setup_of options).machine
+setup_uncached options proper = meant IsUncached machines.Pipe options.machine (inr refl) proper.machine_is
 
 input_is_proper : (options : Options) → AreProper options → IsProperInput (input_of options)
 input_is_proper options proper = input_proper options.image (memory_lines options) (lines_within options.memory proper.memory_is)
@@ -340,7 +341,8 @@ IsOf programs.KmpMp other = ⊥
 pub named_is_of : (program : Program) (text : List ℕ) (command : Command) → named (command_names program) text ≡ Some command
     → IsOf program command
 named_is_of programs.Kmp text command is =
-    by_tests (bytes_eq (codes "run") text) (bytes_eq (codes "asm") text) (bytes_eq (codes "replay") text) (bytes_eq (codes "trial") text) command is
+    by_tests (bytes_eq (codes "run") text) (bytes_eq (codes "asm") text) (bytes_eq (codes "replay") text) (bytes_eq (codes "trial") text)
+    command is
   where
     by_tests : (run asm replay trial : Bool) (command : Command)
         → (if run then Some commands.Run else if asm then Some commands.Asm else if replay then Some commands.Replay
@@ -363,7 +365,7 @@ pub order_runnable : (program : Program) (command : Command) (options : Options)
 order_runnable programs.Kmp commands.Run options is proper = (
   record {
     limits = setup_limits options proper;
-    plain = setup_plain options proper;
+    uncached = setup_uncached options proper;
     turns = meant (AreTurnsOf programs.Kmp) turns.Round options.turns (inl refl) proper.turns_are;
   },
   input_is_proper options proper,
@@ -380,7 +382,7 @@ order_runnable programs.KmpMp commands.RunOnThreads options is proper = (
       some_ways = limits.some_ways;
       ways = limits.ways;
     };
-    plain = setup_plain options proper;
+    uncached = setup_uncached options proper;
     turns = refl;
   },
   input_is_proper options proper,
@@ -390,7 +392,7 @@ order_runnable programs.Kmp commands.Replay options is proper = tt
 order_runnable programs.Kmp commands.Trial options is proper = (
   record {
     limits = setup_limits options proper;
-    plain = setup_plain options proper;
+    uncached = setup_uncached options proper;
     turns = meant (AreTurnsOf programs.Kmp) turns.Round options.turns (inl refl) proper.turns_are;
   },
   meant (λ size. size ≤ 1000) 100 options.size (omega arith) proper.size_is,

@@ -1,5 +1,6 @@
 -- What the words of the command line ask for.
-use Rattle.std.specs.Prelude.{◌≡◌, ◌⊎◌, ℕ, ◌≤◌, ◌+◌, ◌/◌, ◌%◌, ◌^◌, ◌==◌, ◌&&◌, Bool, not, nat_le, if◌then◌else◌, List, [], ◌∷◌, length, drop}
+use Rattle.std.specs.Prelude.{◌≡◌, ◌⊎◌, ℕ, ◌≤◌, ◌+◌, ◌/◌, ◌%◌, ◌^◌, ◌==◌, ◌&&◌, Bool, not, nat_le, if◌then◌else◌, List, [], ◌∷◌, length}
+use Rattle.std.specs.Prelude.{drop}
 use Rattle.std.specs.Prelude.{take_while, map, codes, decimal, max, Option, Some, None, is_some, option_map, option_and_then, Result, Ok}
 use Rattle.std.specs.Prelude.{Err}
 use Rattle.std.specs.Borrow.{Bor}
@@ -18,6 +19,7 @@ use Rattle.kmp_base.specs.Names.{named}
 use Rattle.kmp_words.specs.declared.order.Order.{Order}
 use Rattle.kmp_words.specs.declared.order.Order.TheVariants as orders
 use Rattle.kmp_base.specs.Limits.{IsWithinLimits}
+use Rattle.kmp_base.specs.Machines.{IsUncached}
 use Rattle.kmp_words.specs.declared.input.Input.{Input}
 use Rattle.kmp_words.specs.declared.input.Input.TheVariants as inputs
 use Rattle.kmp_words.specs.declared.options.Command.{Command}
@@ -87,7 +89,7 @@ number_within least most text =
     option_and_then (λ number. if nat_le least number && nat_le number most then Some number else None) (number_in text)
 
 abbrev pub machine_names : List (List ℕ × MachineKind)
-machine_names = with_names machine_name (machines.Plain ∷ [])
+machine_names = with_names machine_name (machines.Plain ∷ machines.Pipe ∷ [])
 
 abbrev pub turns_names : List (List ℕ × Turns)
 turns_names = with_names turns_name (turns.Round ∷ turns.Seeded ∷ [])
@@ -158,7 +160,7 @@ or_default default option = option_map_or (λ value. value) option default
 -- the setup of a run
 abbrev pub setup_of : Options → Setup
 setup_of options = record {
-  machine = or_default machines.Plain options.machine;
+  machine = or_default machines.Pipe options.machine;
   cores = or_default 1 options.cores;
   budget = or_default 20000 options.budget;
   policy = policies.Fifo;
@@ -210,10 +212,10 @@ abbrev pub AreTurnsOf : Program → Turns → Type 0
 AreTurnsOf programs.Kmp order = (order ≡ turns.Round) ⊎ (order ≡ turns.Seeded)
 AreTurnsOf programs.KmpMp order = order ≡ turns.Threads
 
--- What a run of a program can be asked for by now: unpipelined cores.
+-- What a run of a program can be asked for by now: cores over flat memory.
 pub record IsRunnableSetup (program : Program) (setup : Setup) : Type 0 where
   pub limits : IsWithinLimits setup
-  pub plain : setup.machine ≡ machines.Plain
+  pub uncached : IsUncached setup.machine
   pub turns : AreTurnsOf program setup.turns
 
 -- an order that the program can carry out

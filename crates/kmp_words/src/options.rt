@@ -19,7 +19,7 @@ pub enum Command {
 
 #[derive(Clone, Copy)]
 pub enum OptionName {
-    /// `--machine=X`: the kind of the cores and of their memory.
+    /// `--machine=X`: how much of the machine is there.
     Machine,
     /// `--cores=N`: so many cores.
     Cores,
@@ -158,7 +158,7 @@ fn asm_option(name: &str) -> Option<OptionName>
 fn machine_named(name: &str) -> Option<MachineKind>
     ensures value { result ≡ named machine_names name.now }
 {
-    let machines = [MachineKind::Plain];
+    let machines = [MachineKind::Plain, MachineKind::Pipe];
     named(
         &machines.map(|machine| (machine.name(), machine)),
         name.as_bytes(),
@@ -309,7 +309,7 @@ impl Options {
         ensures value { result ≡ setup_of self.now }
     {
         Setup {
-            machine: self.machine.unwrap_or(MachineKind::Plain),
+            machine: self.machine.unwrap_or(MachineKind::Pipe),
             cores: self.cores.unwrap_or(1),
             budget: self.budget.unwrap_or(20_000),
             policy: Policy::Fifo,
