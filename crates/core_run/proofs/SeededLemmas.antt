@@ -8,7 +8,8 @@ use Rattle.std.proofs.lemmas.Grind.{flat_map-append}
 use Rattle.std.proofs.lemmas.List.{take-append-le, length-append, length-map, length-set}
 use Rattle.std.proofs.lemmas.List.Sums.{sum_by_push, sum_by-set}
 use Rattle.std.proofs.lemmas.Option.{same_Some, slice_get_within, slice_get-map, get_or_from_slice_get}
-use Rattle.std_laws.proofs.ListLaws.{slice_get_some, AtEach-set, slice_get-append_left, slice_get_at, slice_get-set_same, slice_get-set_other}
+use Rattle.std_laws.proofs.ListLaws.{slice_get_some, AtEach-set, slice_get-append_left, slice_get_at, slice_get-set_same}
+use Rattle.std_laws.proofs.ListLaws.{slice_get-set_other}
 use Rattle.std_laws.proofs.ListLaws.{slice_get-push_cases}
 use Rattle.std_laws.proofs.OptionLaws.{option_map_parts}
 use Rattle.access_log.specs.declared.Entry.{Entry}

@@ -1,8 +1,6 @@
 //! Numbers from their one spelling.
 ghost use Rattle.std.specs.Prelude.{◌≡◌, ◌↔◌, IsTrue, ℕ, ◌^◌, ◌<◌, decimal, MatchOption};
-ghost use Rattle.kmp_base.specs.Text.{hex8};
-
-use itoa::Buffer;
+ghost use Rattle.kmp_base.specs.Text.{hex8, IsPadded};
 
 /// The number below 2^64 that the text spells in decimal digits, without a sign or a leading zero.
 /// Each number has one spelling; `None` for any other text.
@@ -17,22 +15,26 @@ pub fn decimal_of(text: &[u8]) -> Option<u64>
     }
 }
 
-// The number whose one decimal spelling the text is. `parse` takes leading zeros and a plus too.
+// The number whose one decimal spelling the text is.
 fn canonical(text: &str) -> Option<u64>
     ensures value { MatchOption result
         ((n : ℕ) → n < 2 ^ 64 → text.now ≡ decimal n → ⊥)
         (λ n. text.now ≡ decimal n) }
 {
+    if is_padded(text.as_bytes()) {
+        return None;
+    }
     match text.parse::<u64>() {
-        Ok(n) => {
-            if Buffer::new().format(n) == text {
-                Some(n)
-            } else {
-                None
-            }
-        }
+        Ok(n) => Some(n),
         Err(_) => None,
     }
+}
+
+// Whether digits, if digits follow, have a plus or a zero before them. `parse` takes both.
+fn is_padded(text: &[u8]) -> bool
+    ensures padded { IsTrue result ↔ IsPadded text.now }
+{
+    !text.is_empty() && (text[0] == b'+' || (text[0] == b'0' && text.len() > 1))
 }
 
 /// The number that the text spells in eight lower-case hexadecimal digits; `None` for any other

@@ -13,7 +13,8 @@ use Rattle.report_rows.specs.declared.MemoryWord.{MemoryWord}
 use Rattle.report_rows.specs.Ends.{EndValue}
 use Rattle.report_rows.specs.Bounds.{IsItem, most_rows, IsEnd}
 use Rattle.report_rows.specs.Rows.{bytes_row_at, item_row, memory_row, core_rows, timetable_rows, header_rows}
-use Rattle.report_row_reader.proofs.PlainRowLaws.{header_plain, number_row_plain, bytes_row_plain, item_plain, memory_plain, core_rows_plain}
+use Rattle.report_row_reader.proofs.PlainRowLaws.{header_plain, number_row_plain, bytes_row_plain, item_plain, memory_plain}
+use Rattle.report_row_reader.proofs.PlainRowLaws.{core_rows_plain}
 use Rattle.report_row_reader.proofs.PlainRowLaws.{timetable_plain}
 use Rattle.report_row_reader.proofs.PlainRowLaws.{count_rows_plain}
 use Rattle.report_text.specs.Report.{ReportValue}

@@ -21,9 +21,11 @@ use Rattle.report_rows.specs.Bounds.{IsWord, IsByte, IsTime, IsAddress, IsEntry,
 use Rattle.report_rows.specs.Rows.{text_row, number_row, bytes_row, entry_row, core_row, memory_row, count_row}
 use Rattle.report_row_reader.specs.declared.read.EndRow.{EndRow}
 use Rattle.report_row_reader.specs.Reading.{text_behind, behind_name, fixed_of, number_from, number_row_of, sets_row_of, machine_row_of}
-use Rattle.report_row_reader.specs.Reading.{policy_row_of, turns_row_of, bytes_row_of, entry_row_of, entry_access_of, entry_words_of, end_row_of}
+use Rattle.report_row_reader.specs.Reading.{policy_row_of, turns_row_of, bytes_row_of, entry_row_of, entry_access_of, entry_words_of}
+use Rattle.report_row_reader.specs.Reading.{end_row_of}
 use Rattle.report_row_reader.specs.Reading.{end_numbers_of, words_of, registers_row_of, memory_row_of, count_row_of}
-use Rattle.report_row_reader.proofs.ValueLaws.{field_as, machine_field, policy_field, turns_field, kind_field, end_field, from_field, sets_field}
+use Rattle.report_row_reader.proofs.ValueLaws.{field_as, machine_field, policy_field, turns_field, kind_field, end_field, from_field}
+use Rattle.report_row_reader.proofs.ValueLaws.{sets_field}
 use Rattle.report_row_reader.proofs.ValueLaws.{address_field, address_from_field, some_word_field}
 
 -- ---- names
