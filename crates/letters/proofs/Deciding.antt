@@ -1,14 +1,14 @@
 -- Whether a history follows the letters, by computation.
-use Rattle.std.specs.Prelude.{ℕ, zero, suc, ◌*◌, ◌%◌, ◌==◌, Bool, true, ◌&&◌, ◌||◌, not, nat_lt, Option, Some, None, List, [], ◌∷◌}
+use Rattle.std.specs.Prelude.{ℕ, ◌*◌, ◌%◌, ◌==◌, Bool, true, ◌&&◌, ◌||◌, not, nat_lt, List, [], ◌∷◌}
 use Rattle.access_log.specs.declared.Letter.{Letter}
 use Rattle.access_log.specs.declared.Letter.TheVariants.{M, O, E, S, I}
 use Rattle.access_log.specs.declared.Transaction.{Transaction}
 use Rattle.access_log.specs.declared.Item.{Item}
 use Rattle.access_log.specs.declared.Item.TheVariants.{Done, Bus}
 use Rattle.access_log.specs.Memory.{is_same_word}
-use Rattle.letters.specs.Moesi.{is_dirty, is_hit}
+use Rattle.moesi_master.specs.Moesi.{is_hit, suffices}
 use Rattle.letters.specs.Caches.{Caches}
-use Rattle.letters.specs.Fold.{LettersValue, cache_of, line_of, after_entry, after_transaction, holders, victim_of, suffices}
+use Rattle.letters.specs.Fold.{LettersValue, cache_of, line_of, after_entry, after_transaction, holders, supplier_of, victim_of}
 
 -- A number for each letter, by which letters are compared.
 abbrev pub letter_number : Letter → ℕ
@@ -17,15 +17,6 @@ letter_number O = 1
 letter_number E = 2
 letter_number S = 3
 letter_number I = 4
-
--- Whether no cache with a number below n, other than the master, has a line dirty.
-abbrev pub is_clean : (ℕ → ℕ → Letter) → ℕ → ℕ → ℕ → Bool
-is_clean letter master line zero = true
-is_clean letter master line (suc n) = is_clean letter master line n && (n == master || not (is_dirty (letter n line)))
-
-abbrev pub is_supplier : (ℕ → ℕ → Letter) → ℕ → ℕ → ℕ → Option ℕ → Bool
-is_supplier letter master line caches None = is_clean letter master line caches
-is_supplier letter master line caches (Some cache) = not (cache == master) && is_dirty (letter cache line)
 
 abbrev pub may_read : ℕ → Transaction → Bool
 may_read code_lines bus = not (bus.master % 2 == 0) || (not bus.im && nat_lt bus.line code_lines)
@@ -36,7 +27,7 @@ is_allowed caches cores code_lines letters bus =
     && (not (suffices (letters.letter bus.master bus.line) bus.im)
     && (may_read code_lines bus
     && ((bus.ch == holders letters.letter bus.master bus.line (2 * cores))
-    && (is_supplier letters.letter bus.master bus.line (2 * cores) bus.di
+    && (is_same_word bus.di (supplier_of letters.letter bus.master bus.line (2 * cores))
     && (is_same_word bus.victim (victim_of caches.ways (letters.letter bus.master bus.line)
     (letters.filled bus.master (bus.line % caches.sets)))
     && (letter_number bus.letter == letter_number ((caches.protocol bus.master).after_finish bus.im bus.ch)))))))

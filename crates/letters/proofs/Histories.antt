@@ -10,19 +10,14 @@ use Rattle.letters.specs.Histories.{Shape, FollowsIn}
 use Rattle.letters.specs.Worked.{History, worked_histories, WorkedHistoriesFollow}
 use Rattle.letters.specs.Wrong.{Fork, IsTold, wrong_histories, WrongHistoriesDontFollow}
 use Rattle.letters.proofs.Deciding.{follows_from}
-use Rattle.letters.proofs.Decided.{LeavesNothing, follows-true, follows-from}
+use Rattle.letters.proofs.Decided.{follows-true, follows-from}
 
 abbrev follows_in : Shape → List Item → Bool
 follows_in shape items = follows_from (all_with moesi shape.sets shape.ways) shape.cores shape.code_lines no_letters items
 
-leaves-nothing : (sets ways : _) → LeavesNothing (all_with moesi sets ways)
-leaves-nothing sets ways cache true = refl
-leaves-nothing sets ways cache false = refl
-
 follows : (shape : Shape) (items : List Item) → follows_in shape items ≡ true → FollowsIn shape items
 follows shape items is =
-    follows-true (all_with moesi shape.sets shape.ways) shape.cores shape.code_lines (leaves-nothing shape.sets shape.ways) no_letters items
-    (λ cache line beyond. refl) is
+    follows-true (all_with moesi shape.sets shape.ways) shape.cores shape.code_lines no_letters items is
 
 refused : (shape : Shape) (items : List Item) → follows_in shape items ≡ false → FollowsIn shape items → ⊥
 refused shape items isnt h =

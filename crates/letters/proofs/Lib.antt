@@ -1,3 +1,4 @@
 pub mod Deciding
 pub mod Decided
 pub mod Histories
+pub mod CopyLaws

@@ -1,7 +1,8 @@
 -- The caches that stand between cores and memory: their shape, and the protocol by which each holds its lines.
 use Rattle.std.specs.Prelude.{ℕ, Bool}
 use Rattle.access_log.specs.declared.Letter.{Letter}
-use Rattle.letters.specs.Moesi as moesi_tables
+use Rattle.moesi_master.specs.Moesi as master
+use Rattle.moesi_slave.specs.Slave as slave
 
 -- A protocol, as its two tables.
 pub record Protocol : Type 0 where
@@ -11,7 +12,7 @@ pub record Protocol : Type 0 where
   pub after_act : Letter → Bool → Letter
 
 abbrev pub moesi : Protocol
-moesi = record { after_finish = moesi_tables.after_finish; after_act = moesi_tables.after_act }
+moesi = record { after_finish = master.after_finish; after_act = slave.after_act }
 
 -- A line stands in the set with the number that is the rest of its own by the number of sets, and a set has room for so many
 -- lines. Each cache has its protocol.

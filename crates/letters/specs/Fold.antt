@@ -1,5 +1,5 @@
 -- What the items of a history make of the letters, and when they follow them. No words appear here: a transaction is one item.
-use Rattle.std.specs.Prelude.{◌≡◌, ◌≢◌, ℕ, zero, suc, ◌+◌, ◌*◌, ◌/◌, ◌%◌, ◌^◌, ◌<◌, Bool, true, false, ◌&&◌, not, nat_lt, ◌==◌}
+use Rattle.std.specs.Prelude.{◌≡◌, ℕ, zero, suc, ◌+◌, ◌*◌, ◌/◌, ◌%◌, ◌^◌, ◌<◌, Bool, true, false, ◌&&◌, not, nat_lt, ◌==◌}
 use Rattle.std.specs.Prelude.{if◌then◌else◌, List, [], ◌∷◌, ◌++◌, Option, Some, None, is_some, length, filter, slice_get}
 use Rattle.access_log.specs.declared.Letter.{Letter}
 use Rattle.access_log.specs.declared.Letter.TheVariants.{I}
@@ -8,7 +8,7 @@ use Rattle.access_log.specs.declared.Transaction.{Transaction}
 use Rattle.access_log.specs.declared.Item.{Item}
 use Rattle.access_log.specs.declared.Item.TheVariants.{Done, Bus}
 use Rattle.access_log.specs.Items.{transactions}
-use Rattle.letters.specs.Moesi.{is_held, is_sole, is_dirty, is_hit, after_hit}
+use Rattle.moesi_master.specs.Moesi.{is_held, is_dirty, is_hit, suffices, after_hit}
 use Rattle.letters.specs.Caches.{Caches}
 
 -- The letter of each line in each cache, and the lines in each set of each cache, in the order in which they were filled.
@@ -79,19 +79,16 @@ holders letter master line zero = 0
 holders letter master line (suc n) =
     holders letter master line n + (if not (n == master) && is_held (letter n line) then 2 ^ n else 0)
 
--- The other cache that supplies a line's words, where one holds it modified or owned.
-abbrev pub IsSupplier : (ℕ → ℕ → Letter) → ℕ → ℕ → Option ℕ → Type 0
-IsSupplier letter master line None = (cache : ℕ) → cache ≢ master → is_dirty (letter cache line) ≡ false
-IsSupplier letter master line (Some cache) = (cache ≢ master) × (is_dirty (letter cache line) ≡ true)
+-- The cache that supplies a line's words: of those with numbers below n, other than the master, the one that holds it dirty.
+-- Where accesses store only by kinds that do, a history that follows the letters leaves at most one; of more, it is the last.
+abbrev pub supplier_of : (ℕ → ℕ → Letter) → ℕ → ℕ → ℕ → Option ℕ
+supplier_of letter master line zero = None
+supplier_of letter master line (suc n) =
+    if not (n == master) && is_dirty (letter n line) then Some n else supplier_of letter master line n
 
 -- The line that makes room for another in its set: none where the other is held or there is room, else the first one filled.
 abbrev pub victim_of : ℕ → Letter → List ℕ → Option ℕ
 victim_of ways letter lines = if is_held letter then None else (if nat_lt (length lines) ways then None else slice_get lines 0)
-
--- Whether a line with this letter needs no transaction, by the intent to modify.
-abbrev pub suffices : Letter → Bool → Bool
-suffices letter true = is_sole letter
-suffices letter false = is_held letter
 
 -- A transaction that the letters allow, for so many cores and lines of code.
 pub record IsAllowed (caches : Caches) (cores code_lines : ℕ) (letters : LettersValue) (bus : Transaction) : Type 0 where
@@ -102,7 +99,8 @@ pub record IsAllowed (caches : Caches) (cores code_lines : ℕ) (letters : Lette
   pub code : bus.master % 2 ≡ 0 → (bus.im ≡ false) × (bus.line < code_lines)
   -- All other caches that hold the line say so, and no other.
   pub held_by : bus.ch ≡ holders letters.letter bus.master bus.line (2 * cores)
-  pub supplier : IsSupplier letters.letter bus.master bus.line bus.di
+  -- The one that holds it dirty supplies it.
+  pub supplier : bus.di ≡ supplier_of letters.letter bus.master bus.line (2 * cores)
   pub makes_room : bus.victim ≡ victim_of caches.ways (letters.letter bus.master bus.line)
       (letters.filled bus.master (bus.line % caches.sets))
   pub becomes : bus.letter ≡ (caches.protocol bus.master).after_finish bus.im bus.ch

@@ -1,6 +1,6 @@
-pub mod Moesi
 pub mod Caches
 pub mod Fold
+pub mod Copies
 pub mod Histories
 pub mod Worked
 pub mod Wrong

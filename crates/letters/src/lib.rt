@@ -2,6 +2,7 @@
 //! them, and when it follows them.
 #![tactic(auto)]
 
+ghost use Rattle.letters.specs.Copies.{MoesiKeepsCopiesConsistent, SuppliersAreDirty, DirtyCachesSupply};
 ghost use Rattle.letters.specs.Worked.{WorkedHistoriesFollow};
 ghost use Rattle.letters.specs.Wrong.{WrongHistoriesDontFollow};
 
@@ -14,4 +15,13 @@ pub fn worked_histories_follow()
 /// it does. The call does nothing.
 pub fn wrong_histories_dont_follow()
     ensures law { WrongHistoriesDontFollow }
+{}
+
+/// A history of accesses that store only by kinds that do, and of transactions, all of which the
+/// letters allow, keeps copies consistent: no other cache holds a line beside the only copy, and at
+/// most one cache holds it dirty, so at most one can supply it. The call does nothing.
+pub fn copies_stay_consistent()
+    ensures law { MoesiKeepsCopiesConsistent }
+    ensures dirty { SuppliersAreDirty }
+    ensures clean { DirtyCachesSupply }
 {}

@@ -6,13 +6,12 @@ use Rattle.mips_isa.specs.declared.Kind.TheVariants as kind
 use Rattle.image_file.specs.Value.{ImageValue, SegmentValue, AreApart}
 use Rattle.access_log.specs.Items.{IsLegal}
 use Rattle.access_log.specs.Memory.{after}
-use Rattle.access_log.specs.declared.Letter.{Letter}
 use Rattle.access_log.specs.declared.Entry.{Entry}
 use Rattle.access_log.specs.declared.Transaction.{Transaction}
 use Rattle.access_log.specs.declared.Item.{Item}
 use Rattle.access_log.specs.declared.Item.TheVariants.{Done, Bus}
 use Rattle.letters.specs.Caches.{Caches}
-use Rattle.letters.specs.Fold.{LettersValue, IsSupplier, IsAllowed, FollowsFrom, Follows, after_entry, after_transaction, no_letters}
+use Rattle.letters.specs.Fold.{LettersValue, IsAllowed, FollowsFrom, Follows, after_entry, after_transaction, no_letters}
 use Rattle.mem_port.specs.declared.port.Port.{Port}
 use Rattle.mem_port.specs.declared.port.Port.TheVariants.{Fetch, Access}
 use Rattle.mem_port.specs.declared.port.PortState.{PortState}
@@ -30,13 +29,9 @@ IsLegal-prop memory [] = hlevel props
 IsLegal-prop memory (Done entry ∷ items) = hlevel (props, IsLegal-prop (after memory entry) items)
 IsLegal-prop memory (Bus bus ∷ items) = IsLegal-prop memory items
 
-IsSupplier-prop : (letter : ℕ → ℕ → Letter) (master line : ℕ) (supplier : Option ℕ) → IsProp (IsSupplier letter master line supplier)
-IsSupplier-prop letter master line None = hlevel props
-IsSupplier-prop letter master line (Some cache) = hlevel props
-
 IsAllowed-prop : (caches : Caches) (cores code_lines : ℕ) (letters : LettersValue) (bus : Transaction)
     → IsProp (IsAllowed caches cores code_lines letters bus)
-IsAllowed-prop caches cores code_lines letters bus = hlevel (props, IsSupplier-prop)
+IsAllowed-prop caches cores code_lines letters bus = hlevel props
 
 FollowsFrom-prop : (caches : Caches) (cores code_lines : ℕ) (letters : LettersValue) (items : List Item)
     → IsProp (FollowsFrom caches cores code_lines letters items)

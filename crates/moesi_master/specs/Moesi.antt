@@ -1,4 +1,4 @@
--- The MOESI protocol, as tables over the letters.
+-- The letters of the MOESI protocol, and what a cache does with its own line.
 use Rattle.std.specs.Prelude.{ℕ, Bool, true, false, ◌==◌, if◌then◌else◌}
 use Rattle.mips_isa.specs.declared.Kind.{Kind}
 use Rattle.mips_isa.specs.Kinds.{stores}
@@ -22,6 +22,11 @@ is_dirty M = true
 is_dirty O = true
 is_dirty letter = false
 
+-- Whether a line with this letter needs no transaction, by the intent to modify.
+abbrev pub suffices : Letter → Bool → Bool
+suffices letter true = is_sole letter
+suffices letter false = is_held letter
+
 -- Whether an access of a kind can be done with no transaction: one that may store needs the only copy.
 abbrev pub is_hit : Letter → Kind → Bool
 is_hit letter kind = if stores kind then is_sole letter else is_held letter
@@ -35,12 +40,3 @@ after_hit letter false = letter
 abbrev pub after_finish : Bool → ℕ → Letter
 after_finish true held_by = M
 after_finish false held_by = if held_by == 0 then E else S
-
--- The letter of another cache after it, by the intent to modify.
-abbrev pub after_act : Letter → Bool → Letter
-after_act letter true = I
-after_act M false = O
-after_act O false = O
-after_act E false = S
-after_act S false = S
-after_act I false = I

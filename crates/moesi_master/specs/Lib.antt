@@ -1,0 +1,2 @@
+pub mod Moesi
+pub mod Phases
