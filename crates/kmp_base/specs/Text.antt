@@ -1,5 +1,5 @@
 -- Numbers as they are spelled in rows.
-use Rattle.std.specs.Prelude.{◌≡◌, ◌⊎◌, ◌<◌, ℕ, List, length, get_or}
+use Rattle.std.specs.Prelude.{◌≡◌, ◌<◌, ℕ, List, length, get_or}
 use Rattle.std.specs.Int.{w16, w32, to_be_bytes}
 use Rattle.hex.specs.Hex.{encode_lower}
 
@@ -11,6 +11,6 @@ hex8 n = encode_lower (to_be_bytes w32 n)
 abbrev pub hex4 : ℕ → List ℕ
 hex4 n = encode_lower (to_be_bytes w16 n)
 
--- A plus or a zero stands first, and behind the zero something else: no number is spelled so in decimal digits.
-abbrev pub IsPadded : List ℕ → Type 0
-IsPadded text = (get_or text 0 0 ≡ 43) ⊎ ((get_or text 0 0 ≡ 48) × (1 < length text))
+-- No text of a number is empty, and none but that of 0 begins with a zero.
+abbrev pub IsPlain : List ℕ → Type 0
+IsPlain text = (0 < length text) × (get_or text 0 0 ≡ 48 → length text ≡ 1)

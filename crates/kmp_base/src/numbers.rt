@@ -1,6 +1,8 @@
 //! Numbers from their one spelling.
-ghost use Rattle.std.specs.Prelude.{◌≡◌, ◌↔◌, IsTrue, ℕ, ◌^◌, ◌<◌, decimal, MatchOption};
-ghost use Rattle.kmp_base.specs.Text.{hex8, IsPadded};
+ghost use Rattle.std.specs.Prelude.{◌≡◌, ◌↔◌, IsTrue, ℕ, ◌+◌, ◌*◌, ◌^◌, ◌<◌, ◌≤◌, decimal, MatchOption, IfSome};
+ghost use Rattle.std.specs.Char.{digit_value};
+ghost use Rattle.std.specs.Str.Parse.{AllDigits, digits_value};
+ghost use Rattle.kmp_base.specs.Text.{hex8, IsPlain};
 
 /// The number below 2^64 that the text spells in decimal digits, without a sign or a leading zero.
 /// Each number has one spelling; `None` for any other text.
@@ -9,32 +11,48 @@ pub fn decimal_of(text: &[u8]) -> Option<u64>
         ((n : ℕ) → n < 2 ^ 64 → text.now ≡ decimal n → ⊥)
         (λ n. text.now ≡ decimal n) }
 {
-    match std::str::from_utf8(text) {
-        Ok(text) => canonical(text),
-        Err(_) => None,
+    if is_plain(text) {
+        digits_of(text)
+    } else {
+        None
     }
 }
 
-// The number whose one decimal spelling the text is.
-fn canonical(text: &str) -> Option<u64>
-    ensures value { MatchOption result
-        ((n : ℕ) → n < 2 ^ 64 → text.now ≡ decimal n → ⊥)
-        (λ n. text.now ≡ decimal n) }
+// Whether a text isn't empty, and has no zero before anything.
+fn is_plain(text: &[u8]) -> bool
+    ensures plain { IsTrue result ↔ IsPlain text.now }
 {
-    if is_padded(text.as_bytes()) {
+    !text.is_empty() && (text[0] != b'0' || text.len() == 1)
+}
+
+// The number below 2^64 that digits write.
+fn digits_of(text: &[u8]) -> Option<u64>
+    ensures value { MatchOption result
+        (AllDigits 10 text.now → 2 ^ 64 ≤ digits_value 10 text.now)
+        (λ n. AllDigits 10 text.now × (n ≡ digits_value 10 text.now)) }
+    ensures fits { IfSome result (λ n. n < 2 ^ 64) }
+{
+    let mut number = 0;
+    for &digit in text {
+        let Some(more) = with_digit(number, digit) else {
+            return None;
+        };
+        number = more;
+    }
+    Some(number)
+}
+
+// A number with one digit more.
+fn with_digit(number: u64, digit: u8) -> Option<u64>
+    ensures value { MatchOption result
+        (digit_value digit < 10 → 2 ^ 64 ≤ number * 10 + digit_value digit)
+        (λ n. (digit_value digit < 10) × (n ≡ number * 10 + digit_value digit)) }
+    ensures fits { IfSome result (λ n. n < 2 ^ 64) }
+{
+    if !digit.is_ascii_digit() {
         return None;
     }
-    match text.parse::<u64>() {
-        Ok(n) => Some(n),
-        Err(_) => None,
-    }
-}
-
-// Whether digits, if digits follow, have a plus or a zero before them. `parse` takes both.
-fn is_padded(text: &[u8]) -> bool
-    ensures padded { IsTrue result ↔ IsPadded text.now }
-{
-    !text.is_empty() && (text[0] == b'+' || (text[0] == b'0' && text.len() > 1))
+    number.checked_mul(10)?.checked_add(u64::from(digit - b'0'))
 }
 
 /// The number that the text spells in eight lower-case hexadecimal digits; `None` for any other
