@@ -1,5 +1,5 @@
 -- The end of a run: every core has ended, and what it did is what the sequential machine does.
-use Rattle.std.proofs.Common.{◌≡◌, ℕ, ◌<◌, Some, None, List, [], ◌∷◌, ◌++◌, length, append-nil, refl, ap, sym, ◌∙◌, arith}
+use Rattle.std.proofs.Common.{◌≡◌, ℕ, ◌<◌, Some, None, List, [], ◌∷◌, ◌++◌, length, append-nil, refl, ap, sym, ◌∙◌, subst, false, arith}
 use Rattle.std.specs.Prelude.{Option, slice_get, map, ◌&&◌, not}
 use Rattle.std.proofs.lemmas.List.{length-map}
 use Rattle.std.proofs.lemmas.Option.{same_Some, slice_get-map, slice_get_within}
@@ -103,6 +103,7 @@ engine-of view times image core cores s engine rows lane end cycles ended histor
   retired = told.retired;
   state = told.state;
   live = served.live ∙ ap (λ (it : Option End). goes_on it && not history.is_drained) told.ends;
+  stopped = subst (λ (it : Option End). goes_on it ≡ false → history.is_drained ≡ false) told.ends served.stopped;
   clocks = served.clocks ∙ sym told.took;
   bound_is = served.bound;
 }

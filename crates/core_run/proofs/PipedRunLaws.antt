@@ -1,11 +1,13 @@
--- What a run of cores with five stages says of their cycles and their turns, where each answer came as its request was served.
+-- What a run of cores with five stages says of their cycles and their turns: where each answer came as its request was served, and
+-- over caches, where it may have come later.
 use Rattle.std.proofs.Common.{◌≡◌, ℕ, ◌<◌, Bool, true, false, List, [], ◌∷◌, refl, ap, sym, ◌∙◌, arith, subst}
-use Rattle.std.specs.Prelude.{Some, map, slice_get, ◌==◌}
+use Rattle.std.specs.Prelude.{Some, None, map, slice_get, ◌==◌}
 use Rattle.std.specs.List.{AllByRecursion}
 use Rattle.std.proofs.lemmas.Bool.{eq-eqb}
 use Rattle.std.proofs.lemmas.Option.{slice_get-map}
 use Rattle.std_laws.proofs.ListLaws.{slice_get_some, AllByRecursion-weaker}
 use Rattle.kmp_base.specs.declared.setup.Setup.{Setup}
+use Rattle.kmp_base.specs.declared.setup.MachineKind.{MachineKind}
 use Rattle.kmp_base.specs.declared.setup.MachineKind.TheVariants as machines
 use Rattle.image_file.specs.Value.{ImageValue}
 use Rattle.access_log.specs.declared.Entry.{Entry}
@@ -14,17 +16,21 @@ use Rattle.access_log.specs.Stamps.{Stamp, own_stamps}
 use Rattle.timetable.specs.declared.CoreEnd.{CoreEnd}
 use Rattle.timetable.specs.declared.rows.TimeRow.{TimeRow}
 use Rattle.timetable.specs.Outcome.{OutcomeValue}
-use Rattle.right_run.specs.Right.{IsRight}
+use Rattle.right_run.specs.Right.{IsRight, caches_on}
 use Rattle.right_run.specs.Stages.{IsStagedEnd}
-use Rattle.right_run.specs.Turns.{told_cycle, in_told_cycles, tables_of}
-use Rattle.right_run.proofs.MachineLaws.{right-from}
+use Rattle.right_run.specs.Turns.{told_cycle, in_told_cycles, AreInTurns, IsInTurns, cycles_of, tables_of}
+use Rattle.right_run.proofs.MachineLaws.{right-from, in-turns}
+use Rattle.mem_port.specs.Memory.{MemoryView, IsFresh, IsAtOnce}
 use Rattle.mem_port.specs.ServiceHistory.{ServiceHistory}
+use Rattle.mem_port.specs.Side.{side_of}
 use Rattle.pipe_core.specs.PipeView.{PipeValue, pipe_view}
 use Rattle.pipe_core.specs.PipeRun.{HasClock}
 use Rattle.pipe_core.specs.PipeHistory.{pipe_timed}
-use Rattle.core_run.specs.Serial.{AreReceived}
-use Rattle.core_run.proofs.PipedEndLemmas.{IsStagedInTime, staged-end}
-use Rattle.core_run.proofs.RunLaws.{entry_in, IsUnstalledRun}
+use Rattle.core_run.specs.Lanes.{bound_of}
+use Rattle.core_run.specs.Outcomes.{IsPipedMemory, IsRun, EndsServed, NoneWaited}
+use Rattle.core_run.specs.Serial.{AreReceived, IsServedRun}
+use Rattle.core_run.proofs.PipedEndLemmas.{IsStagedInTime, staged-end, late-end}
+use Rattle.core_run.proofs.RunLaws.{entry_in, IsUnstalledRun, run-fresh, run-unstalled, run-served}
 
 abbrev pub rows_of : PipeValue → List TimeRow
 rows_of e = e.table.rows
@@ -108,3 +114,46 @@ module _ (setup : Setup) (image : ImageValue) (outcome : OutcomeValue) (historie
       let within = subst (AllByRecursion (λ (entry : Entry). entry.core < setup.cores)) (sym received.are) is.run.within in
       let all = all-own (TellsCycle tables) setup.cores received.stamps within (own-told received.stamps received.received) in
       subst in_order (told-cycles tables received.stamps all ∙ ap (in_told_cycles tables) received.are) received.ordered
+
+-- Over caches such a run is right, whenever the answers came.
+pub cached-right : (setup : Setup) (image : ImageValue) (m : MemoryView) (outcome : OutcomeValue) (histories : ℕ → ServiceHistory)
+    → setup.machine ≡ machines.Full → IsFresh image setup.cores setup.budget (caches_on machines.Full setup) m
+    → IsRun m.image m.cores setup.budget m.caches outcome → EndsServed pipe_view rows_of pipe_timed m outcome histories
+    → IsRight setup image outcome
+cached-right setup image m outcome histories full fresh run served =
+    let same = run-fresh image setup.cores setup.budget (caches_on machines.Full setup) m outcome fresh run in
+    right-from machines.Full setup image outcome full (record {
+      replays = same.replays;
+      ends = λ core ended got.
+          (let f = rw (fresh.image_is, fresh.cores_are) at served core ended got in
+          subst (λ (accesses : List Entry). IsStagedEnd None setup.budget image core setup.cores accesses ended) f.1.1.1.1
+          (late-end image core setup.cores (bound_of (side_of m core)) ended (histories core) f.0 f.1.0 f.1.1.0 f.1.1.1.0 setup.budget
+          (same.ends core ended got)));
+      follows = same.follows;
+    })
+
+-- By the machine.
+module _ (setup : Setup) (image : ImageValue) (m : MemoryView) (outcome : OutcomeValue) (histories : ℕ → ServiceHistory) where
+  pub piped-run-right : (machine : MachineKind) → setup.machine ≡ machine → IsPipedMemory machine m
+      → IsFresh image setup.cores setup.budget (caches_on machine setup) m → IsRun m.image m.cores setup.budget m.caches outcome
+      → EndsServed pipe_view rows_of pipe_timed m outcome histories → (IsAtOnce m → NoneWaited m.cores histories)
+      → IsRight setup image outcome
+  piped-run-right machines.Plain is fits fresh run served waited = absurd fits
+  piped-run-right machines.Pipe is once fresh run served waited =
+      piped-right setup image outcome histories
+      (run-unstalled pipe_view rows_of pipe_timed image setup.cores setup.budget m outcome histories fresh once run served (waited once)) is
+  piped-run-right machines.Full is fits fresh run served waited = cached-right setup image m outcome histories is fresh run served
+
+  pub piped-run-turns : (machine : MachineKind) → setup.machine ≡ machine → IsPipedMemory machine m
+      → IsFresh image setup.cores setup.budget (caches_on machine setup) m → IsRun m.image m.cores setup.budget m.caches outcome
+      → IsServedRun pipe_view rows_of pipe_timed m (AreInTurns setup.turns setup.seed (cycles_of outcome.cores)) outcome histories
+      → IsInTurns setup (cycles_of outcome.cores) (tables_of outcome.cores) (entries outcome.items)
+  piped-run-turns machines.Plain is fits fresh run served = absurd fits
+  piped-run-turns machines.Pipe is once fresh run served =
+      let in_order = AreInTurns setup.turns setup.seed (cycles_of outcome.cores) in
+      in-turns machines.Pipe setup.turns setup (cycles_of outcome.cores) (tables_of outcome.cores) (entries outcome.items) is refl
+      (piped-ordered setup image outcome histories
+      (run-served pipe_view rows_of pipe_timed in_order image setup.cores setup.budget m outcome histories fresh once run served) in_order
+      (served.at_once once).received)
+  piped-run-turns machines.Full is fits fresh run served =
+      in-turns machines.Full setup.turns setup (cycles_of outcome.cores) (tables_of outcome.cores) (entries outcome.items) is refl tt

@@ -1,12 +1,13 @@
 -- What a run is whose cores were all served without a wait, whatever their engines are.
 use Rattle.std.proofs.Common.{◌≡◌, ℕ, List, arith}
-use Rattle.std.specs.Prelude.{Some, None, false, map, slice_get}
+use Rattle.std.specs.Prelude.{Option, Some, None, false, map, slice_get}
 use Rattle.std.proofs.lemmas.Option.{slice_get_within}
 use Rattle.image_file.specs.Value.{ImageValue}
 use Rattle.access_log.specs.declared.Entry.{Entry}
 use Rattle.access_log.specs.Items.{entries}
 use Rattle.access_log.specs.Replay.{own}
 use Rattle.access_log.specs.Stamps.{Stamp}
+use Rattle.letters.specs.Caches.{Caches}
 use Rattle.timetable.specs.declared.CoreEnd.{CoreEnd}
 use Rattle.timetable.specs.declared.rows.TimeRow.{TimeRow}
 use Rattle.timetable.specs.Outcome.{OutcomeValue}
@@ -34,9 +35,9 @@ module _ {E : Type 0} (view : E → EngineView) (rows : E → List TimeRow) (tim
       pub each : EndsUnstalled image cores outcome histories
 
 -- A run on a memory that was fresh, of the words of its setup.
-pub run-fresh : (image : ImageValue) (cores budget : ℕ) (m : MemoryView) (outcome : OutcomeValue) → IsFresh image cores budget None m
-    → IsRun m.image m.cores budget m.caches outcome → IsRun image cores budget None outcome
-run-fresh image cores budget m outcome fresh run = rw (fresh.image_is, fresh.cores_are, fresh.caches_are) at run
+pub run-fresh : (image : ImageValue) (cores budget : ℕ) (caches : Option Caches) (m : MemoryView) (outcome : OutcomeValue)
+    → IsFresh image cores budget caches m → IsRun m.image m.cores budget m.caches outcome → IsRun image cores budget caches outcome
+run-fresh image cores budget caches m outcome fresh run = rw (fresh.image_is, fresh.cores_are, fresh.caches_are) at run
 
 -- So is a run on such a memory that answers each request as it is served, where no budget ended while a core waited.
 pub run-unstalled : {E : Type 0} (view : E → EngineView) (rows : E → List TimeRow) (times : ServiceHistory → E → Type 0)
@@ -45,7 +46,7 @@ pub run-unstalled : {E : Type 0} (view : E → EngineView) (rows : E → List Ti
     → EndsServed view rows times m outcome histories → NoneWaited m.cores histories
     → IsUnstalledRun view rows times image cores budget outcome histories
 run-unstalled view rows times image cores budget m outcome histories fresh once run served waited =
-    let same = run-fresh image cores budget m outcome fresh run in
+    let same = run-fresh image cores budget None m outcome fresh run in
     record {
       run = same;
       each = λ core ended got. (

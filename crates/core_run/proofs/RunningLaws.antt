@@ -88,9 +88,10 @@ module _ {E S : Type 0} (view : E → EngineView) (times : ServiceHistory → E 
 
     -- How its engine was served.
     pub served-ending : {cycles : ℕ} (end : End) (p : ServiceHistory) → KeepsSide (side s before.core) (side t before.core)
+        → (goes_on (Some end) ≡ false → before.open_access ≡ false)
         → IsServedAt view times (side s before.core) e before (Some end) cycles p
         → IsServedAt view times (side t before.core) f after (Some end) cycles (last_history before.open_access access (view e) p)
-    served-ending end p kept served = record {
+    served-ending end p kept closed served = record {
       tells = last-tells view times p before.open_access access ending.drained served.tells;
       clocks = last-clocks (view e) p before.open_access access ∙ served.clocks;
       accesses = last-accesses (view e) p before.open_access access
@@ -98,6 +99,8 @@ module _ {E S : Type 0} (view : E → EngineView) (times : ServiceHistory → E 
           ∙ sym ending.taken);
       bound = last-bound (view e) p before.open_access access ∙ (served.bound ∙ sym (bound-along _ _ kept));
       live = last-live view times p before.open_access access (goes_on (Some end)) ending.drained served.live;
+      stopped = λ dead. ap (λ (q : ServiceHistory). q.is_drained) (last-same (view e) p before.open_access access (closed dead))
+          ∙ served.stopped dead;
       tight = λ none. cc;
       at_once = λ once.
           (let was = served.at_once (sym (last-bound (view e) p before.open_access access) ∙ once) in (
@@ -145,6 +148,7 @@ module _ {E S : Type 0} (view : E → EngineView) (times : ServiceHistory → E 
               ∙ (ap (λ x. (side s before.core).taken ++ x) (entries-stamped (p.service.clocks + 1) more) ∙ sym cycle.taken));
           bound = loose.bound;
           live = rw (not_drained, ends) (live-after result (cycles + 1) budget (view f) progressed ∙ sym (and-true _));
+          stopped = λ dead. not_drained;
           tight = λ none. loose;
           at_once = λ once.
               (let told = once-told _ _ (sym served.bound ∙ once) in (
@@ -174,19 +178,23 @@ module _ {E S : Type 0} (view : E → EngineView) (times : ServiceHistory → E 
     pub served-ended : (budget cycles : ℕ) {access fetch : Withdrawal} {g : E} {u : S} {last : Lane}
         → IsEnding view times side makes pays access fetch f g t u after last → (p : ServiceHistory) (end : End)
         → KeepsSide (side s before.core) (side t before.core) → KeepsSide (side t after.core) (side u after.core)
-        → Progressed result (view f) → (view e).is_live ≡ true → IsServedAt view times (side s before.core) e before None cycles p
+        → IsCoupled (view f) (side t after.core) after → Progressed result (view f) → (view e).is_live ≡ true
+        → IsServedAt view times (side s before.core) e before None cycles p
         → Some end ≡ end_after result (cycles + 1) budget
         → (q : ServiceHistory) × (IsServedAt view times (side u before.core) g last (Some end) (cycles + 1) q
         × (p.bound ≡ Some 0 → ReceivesOne (cycles + 1) p q))
-    served-ended budget cycles {access} {fetch} {g} {u} {last} ending p end kept keeps progressed live served ends =
+    served-ended budget cycles {access} {fetch} {g} {u} {last} ending p end kept keeps coupled progressed live served ends =
         let mid = history_after came (view e) (side t before.core) after p in
         let now = served-cycle budget cycles p (Some end) kept progressed live served ends in
         let here = subst (λ (k : ℕ). IsServedAt view times (side t k) f after (Some end) (cycles + 1) mid) (sym (cycle-core cycle)) now in
-        let q = last_history after.open_access access (view f) mid in (
+        let q = last_history after.open_access access (view f) mid in
+        let goes = live-after result (cycles + 1) budget (view f) progressed ∙ ap goes_on (sym ends) in
+        let closed = λ (dead : goes_on (Some end) ≡ false).
+        stopped-closed (view f) (side t after.core) after coupled (dead-stops result (view f) progressed) (goes ∙ dead) in (
           q,
           (
             subst (λ (k : ℕ). IsServedAt view times (side u k) g last (Some end) (cycles + 1) q) (cycle-core cycle)
-                (served-ending ending end mid keeps here),
+                (served-ending ending end mid keeps closed here),
             λ once. subst (λ (h : ServiceHistory). ReceivesOne (cycles + 1) p h)
                 (sym (last-same (view f) mid after.open_access access (now.at_once once).0.access)) (received-cycle cycles p served.clocks),
           ),

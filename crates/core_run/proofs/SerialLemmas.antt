@@ -107,6 +107,7 @@ module _ (turn : ℕ) (old new : MemoryView) (left : LeavesOthers turn old new) 
     accesses = rw (left.taken lane.core ne) h.accesses;
     bound = rw (left.kept.tells_distances, left.kept.bound) h.bound;
     live = h.live;
+    stopped = h.stopped;
     tight = λ none. tight-kept history lane ne (h.tight none);
     at_once = h.at_once;
   }

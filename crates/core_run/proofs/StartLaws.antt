@@ -80,6 +80,7 @@ module _ (image : ImageValue) (core cores budget : ℕ) (s : SideView) where
     accesses = sym unused.taken;
     bound = refl;
     live = rw h.no_end h.engine.live;
+    stopped = λ dead. refl;
     tight = λ none. record {
       bound = refl;
       fetch = λ told. rw h.closed.fetch (omega arith);

@@ -1,6 +1,8 @@
 -- The slots of cores before their first cycles, and what a run of them leaves, whatever the order of their cycles.
 use Rattle.std.specs.Prelude.{◌≡◌, ℕ, ◌<◌, ◌≤◌, ◌&&◌, not, false, Option, Some, None, List, length, slice_get, map}
 use Rattle.std.specs.List.{AllByRecursion}
+use Rattle.kmp_base.specs.declared.setup.MachineKind.{MachineKind}
+use Rattle.kmp_base.specs.declared.setup.MachineKind.TheVariants.{Plain, Pipe, Full}
 use Rattle.image_file.specs.Value.{ImageValue, code_lines, start_memory, start_states}
 use Rattle.access_log.specs.Items.{entries}
 use Rattle.access_log.specs.Replay.{own, replay}
@@ -12,7 +14,7 @@ use Rattle.timetable.specs.declared.CoreEnd.{CoreEnd}
 use Rattle.timetable.specs.declared.rows.TimeRow.{TimeRow}
 use Rattle.timetable.specs.Outcome.{OutcomeValue, final_of}
 use Rattle.mem_port.specs.Loaded.{stop}
-use Rattle.mem_port.specs.Memory.{MemoryView}
+use Rattle.mem_port.specs.Memory.{MemoryView, IsAtOnce}
 use Rattle.mem_port.specs.Engine.{EngineView}
 use Rattle.mem_port.specs.ServiceHistory.{ServiceHistory}
 use Rattle.mem_port.specs.Side.{side_of}
@@ -58,6 +60,7 @@ pub record IsEngineOf (image : ImageValue) (core cores : ℕ) (bound : Option �
   pub retired : e.executed ≡ ended.retired
   pub state : e.state ≡ ended.state
   pub live : e.is_live ≡ (goes_on (Some ended.end) && not history.is_drained)
+  pub stopped : goes_on (Some ended.end) ≡ false → history.is_drained ≡ false
   pub clocks : history.service.clocks ≡ ended.cycles
   pub bound_is : history.bound ≡ bound
 
@@ -80,3 +83,10 @@ EndsServed {E} view rows times m outcome histories = (core : ℕ) (ended : CoreE
 -- No core's budget ended while it waited.
 abbrev pub NoneWaited : ℕ → (ℕ → ServiceHistory) → Type 0
 NoneWaited cores histories = (core : ℕ) → core < cores → (histories core).is_drained ≡ false
+
+-- A memory over which a machine has its cores with five stages: flat memory answers each request as it is served, and over caches a
+-- request may wait.
+abbrev pub IsPipedMemory : MachineKind → MemoryView → Type 0
+IsPipedMemory Plain m = ⊥
+IsPipedMemory Pipe m = IsAtOnce m
+IsPipedMemory Full m = Unit {0}

@@ -83,6 +83,8 @@ pub record IsServedAt {E : Type 0} (view : E → EngineView) (times : ServiceHis
   pub accesses : map (λ (stamp : Stamp). stamp.entry) history.service.accesses ≡ s.taken
   pub bound : history.bound ≡ bound_of s
   pub live : (view engine).is_live ≡ (goes_on end && not history.is_drained)
+  -- Where the core stopped, none of its accesses was open.
+  pub stopped : goes_on end ≡ false → history.is_drained ≡ false
   pub tight : end ≡ None → IsNoTighter history s lane
   -- Where each answer comes as its request is served, nothing is open, and the budget didn't end while something was.
   pub at_once : history.bound ≡ Some 0 → IsClosed lane × (history.is_drained ≡ false)

@@ -8,8 +8,9 @@
 //! - `proofs/EndLaws`: the end that a cycle makes is one of its core, and the history by which its engine
 //!   is served behind it.
 //! - `proofs/LeadLaws`: calls behind others lead on, and calls on what holds a memory are calls on it.
-//! - `proofs/PipedRunLaws`: a run of cores with five stages whose answers all came at once is right, and
-//!   its accesses were received in the cycles that its timetables tell.
+//! - `proofs/PipedRunLaws`: a run of cores with five stages is right, over caches whenever its answers came,
+//!   over flat memory as they came at once; and then its accesses were received in the cycles that its
+//!   timetables tell.
 //! - `proofs/PlainRunLaws`: a run of such unpipelined cores is right, and its accesses were received in the
 //!   cycles that their order tells.
 //! - `proofs/RunLaws`: when all cores of a run were served without a wait.
@@ -29,7 +30,7 @@ mod timed;
 pub use lane::{Lane, cycle, finish, run_cycle};
 pub use piped::pipe_slots;
 pub use plain::Plain;
-pub use run::{plain_slots, run_serial};
+pub use run::{plain_slots, run_piped, run_serial};
 pub use seeded::run_seeded;
 pub use serial::{CoreSlot, end_of, run_slots};
 pub use side::CoreSide;

@@ -4,11 +4,11 @@ ghost use Rattle.std.specs.List.{AllByRecursion};
 ghost use Rattle.kmp_base.specs.Limits.{IsWithinLimits};
 ghost use Rattle.kmp_base.specs.Machines.{IsUncached};
 ghost use Rattle.access_log.specs.Items.{entries};
-ghost use Rattle.right_run.specs.Right.{IsRight};
+ghost use Rattle.right_run.specs.Right.{IsRight, caches_of};
 ghost use Rattle.right_run.specs.Turns.{AreInTurns, IsInTurns, cycles_of, tables_of};
 ghost use Rattle.mem_port.specs.Memory.{IsFresh};
 ghost use Rattle.mem_port.specs.ServiceHistory.{ServiceHistory, IsFirstHistory};
-ghost use Rattle.core_run.specs.Outcomes.{AreFirst, IsRun};
+ghost use Rattle.core_run.specs.Outcomes.{AreFirst, IsPipedMemory, IsRun};
 ghost use Rattle.core_run.specs.Serial.{IsSerial, IsServedRun};
 ghost use Rattle.core_run.specs.declared.plain.Plain.{Plain};
 ghost use Rattle.core_run.specs.declared.serial.CoreSlot.{CoreSlot};
@@ -67,6 +67,32 @@ fn run_in_turns<E: TimedEngine, M: MemoryCore>(
     }
 }
 
+/// Runs an image to the ends of its cores, which have five stages, in turns over a memory that was
+/// made for it: on the machine `pipe` one that answers each request as it is served, on `full` one
+/// with the caches of the setup, which may let requests wait. All memory that is still wanted is
+/// taken before the first cycle.
+pub fn run_piped<M: MemoryCore>(
+    alloc: Global,
+    memory: M,
+    image: &Image,
+    setup: &Setup,
+) -> Result<Outcome, NoMemory>
+    requires limits { IsWithinLimits setup.now }
+    requires serial { IsSerial setup.now.turns }
+    requires fresh { IsFresh image.now setup.now.cores setup.now.budget (caches_of setup.now) (M.view memory) }
+    requires fits { IsPipedMemory setup.now.machine (M.view memory) }
+    ensures right { IfOk result (IsRight setup.now image.now) }
+    ensures turns { IfOk result (λ outcome.
+        IsInTurns setup.now (cycles_of outcome.cores) (tables_of outcome.cores) (entries outcome.items)) }
+    ensures cores { IfOk result (λ outcome. length outcome.cores ≡ setup.now.cores) }
+    ensures words { IfOk result (λ outcome. length outcome.words ≡ 2 * image.now.memory_lines) }
+    ensures within { IfOk result (λ outcome. AllByRecursion (λ entry. entry.core < setup.now.cores) (entries outcome.items)) }
+{
+    let ends = Vec::with_capacity(alloc, setup.cores as usize)?;
+    let slots = pipe_slots(alloc, image, setup.cores, setup.budget)?;
+    Ok(run_in_turns(alloc, memory, slots, ends, setup))
+}
+
 /// Runs an image to the ends of its cores, in turns. All memory is taken before the first cycle.
 pub fn run_serial(alloc: Global, image: &Image, setup: &Setup) -> Result<Outcome, NoMemory>
     requires limits { IsWithinLimits setup.now }
@@ -78,16 +104,16 @@ pub fn run_serial(alloc: Global, image: &Image, setup: &Setup) -> Result<Outcome
     ensures words { IfOk result (λ outcome. length outcome.words ≡ 2 * image.now.memory_lines) }
     ensures within { IfOk result (λ outcome. AllByRecursion (λ entry. entry.core < setup.now.cores) (entries outcome.items)) }
 {
-    let memory = FlatMemory::new(alloc, image, setup.cores, setup.budget)?;
-    let ends = Vec::with_capacity(alloc, setup.cores as usize)?;
     match setup.machine {
         MachineKind::Plain => {
+            let memory = FlatMemory::new(alloc, image, setup.cores, setup.budget)?;
+            let ends = Vec::with_capacity(alloc, setup.cores as usize)?;
             let slots = plain_slots(alloc, image, setup.cores)?;
             Ok(run_in_turns(alloc, memory, slots, ends, setup))
         }
         MachineKind::Pipe => {
-            let slots = pipe_slots(alloc, image, setup.cores, setup.budget)?;
-            Ok(run_in_turns(alloc, memory, slots, ends, setup))
+            let flat = FlatMemory::new(alloc, image, setup.cores, setup.budget)?;
+            run_piped(alloc, flat, image, setup)
         }
         MachineKind::Full => unreachable!(),
     }

@@ -8,7 +8,7 @@ mod side;
 mod work;
 
 pub use gate::{Gate, OpenGate};
-pub use run::{run_slots, run_threads};
+pub use run::{run_piped, run_slots, run_threads};
 pub use side::TurnSide;
 pub use std::alloc::AllocError as NoMemory;
 pub use work::run_core;

@@ -5,11 +5,11 @@ ghost use Rattle.kmp_base.specs.Limits.{IsWithinLimits};
 ghost use Rattle.kmp_base.specs.Machines.{IsUncached};
 ghost use Rattle.kmp_base.specs.declared.setup.Turns.TheVariants as turns;
 ghost use Rattle.access_log.specs.Items.{entries};
-ghost use Rattle.right_run.specs.Right.{IsRight};
+ghost use Rattle.right_run.specs.Right.{IsRight, caches_of};
 ghost use Rattle.right_run.specs.Turns.{IsInTurns, cycles_of, tables_of};
 ghost use Rattle.mem_port.specs.Memory.{IsFresh, IsAtOnce};
 ghost use Rattle.mem_port.specs.ServiceHistory.{ServiceHistory, IsFirstHistory};
-ghost use Rattle.core_run.specs.Outcomes.{AreFirst, IsRun, EndsServed, NoneWaited};
+ghost use Rattle.core_run.specs.Outcomes.{AreFirst, IsPipedMemory, IsRun, EndsServed, NoneWaited};
 ghost use Rattle.core_run.specs.declared.serial.CoreSlot.{CoreSlot};
 ghost use Rattle.core_threads.specs.Workers.{IsFreshFor, IsReady, HasWorked};
 
@@ -106,6 +106,34 @@ pub fn run_slots<
     })
 }
 
+/// Runs an image to the ends of its cores, which have five stages, each on a thread of its own, over a
+/// memory that was made for it: on the machine `pipe` one that answers each request as it is served, on
+/// `full` one with the caches of the setup, which may let requests wait. All memory that is still wanted
+/// is taken before the first cycle.
+pub fn run_piped<R: Threads + Wait + Sync, M: MemoryCore + Send, G: Gate + Sync>(
+    rt: &R,
+    alloc: Global,
+    memory: M,
+    image: &Image,
+    setup: &Setup,
+    gate: &G,
+) -> Result<Outcome, NoMemory>
+    requires limits { IsWithinLimits setup.now }
+    requires threads { setup.now.turns ≡ turns.Threads }
+    requires fresh { IsFresh image.now setup.now.cores setup.now.budget (caches_of setup.now) (M.view memory) }
+    requires fits { IsPipedMemory setup.now.machine (M.view memory) }
+    ensures right { IfOk result (IsRight setup.now image.now) }
+    ensures turns { IfOk result (λ outcome.
+        IsInTurns setup.now (cycles_of outcome.cores) (tables_of outcome.cores) (entries outcome.items)) }
+    ensures cores { IfOk result (λ outcome. length outcome.cores ≡ setup.now.cores) }
+    ensures words { IfOk result (λ outcome. length outcome.words ≡ 2 * image.now.memory_lines) }
+    ensures within { IfOk result (λ outcome. AllByRecursion (λ entry. entry.core < setup.now.cores) (entries outcome.items)) }
+{
+    let slots = pipe_slots(alloc, image, setup.cores, setup.budget)?;
+    let outcome = run_slots(rt, alloc, memory, slots, setup.budget, gate)?;
+    Ok(outcome)
+}
+
 /// Runs an image to the ends of its cores, each on a thread of its own. All memory is taken before the
 /// first cycle.
 pub fn run_threads<R: Threads + Wait + Sync, G: Gate + Sync>(
@@ -124,17 +152,16 @@ pub fn run_threads<R: Threads + Wait + Sync, G: Gate + Sync>(
     ensures words { IfOk result (λ outcome. length outcome.words ≡ 2 * image.now.memory_lines) }
     ensures within { IfOk result (λ outcome. AllByRecursion (λ entry. entry.core < setup.now.cores) (entries outcome.items)) }
 {
-    let memory = FlatMemory::new(alloc, image, setup.cores, setup.budget)?;
     match setup.machine {
         MachineKind::Plain => {
+            let memory = FlatMemory::new(alloc, image, setup.cores, setup.budget)?;
             let slots = plain_slots(alloc, image, setup.cores)?;
             let outcome = run_slots(rt, alloc, memory, slots, setup.budget, gate)?;
             Ok(outcome)
         }
         MachineKind::Pipe => {
-            let slots = pipe_slots(alloc, image, setup.cores, setup.budget)?;
-            let outcome = run_slots(rt, alloc, memory, slots, setup.budget, gate)?;
-            Ok(outcome)
+            let flat = FlatMemory::new(alloc, image, setup.cores, setup.budget)?;
+            run_piped(rt, alloc, flat, image, setup, gate)
         }
         MachineKind::Full => unreachable!(),
     }

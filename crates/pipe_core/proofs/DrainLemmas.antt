@@ -1,5 +1,5 @@
 -- The end of a budget keeps what an engine tells of its times.
-use Rattle.std.proofs.Common.{◌++◌, ◌≡◌, ℕ, ◌+◌, true, refl, ap, sym, ◌∙◌, arith, subst, length}
+use Rattle.std.proofs.Common.{◌++◌, ◌≡◌, ℕ, ◌+◌, inl, inr, true, List, [], refl, ap, sym, ◌∙◌, arith, subst, length}
 use Rattle.std.proofs.Common.{false}
 use Rattle.std.proofs.Common.{IsSome}
 use Rattle.std.specs.Prelude.{Option, Some, None}
@@ -9,6 +9,9 @@ use Rattle.mips_isa.specs.Kinds.{loaded}
 use Rattle.image_file.specs.Value.{ImageValue}
 use Rattle.access_log.specs.declared.request.Request.{Request}
 use Rattle.access_log.specs.Stamps.{stamped}
+use Rattle.timetable.specs.declared.rows.TimeRow.{TimeRow}
+use Rattle.timetable.specs.Tables.{Timed, prior, past_of}
+use Rattle.timetable.specs.Ends.{IsDoneByEnd}
 use Rattle.mem_port.specs.ServiceHistory.{Service, ServiceHistory, UsesService, executed_by, AfterDrain}
 use Rattle.pipe_regs.specs.declared.Slot.{Slot}
 use Rattle.pipe_core.specs.declared.flight.Flight.{Flight}
@@ -20,12 +23,13 @@ use Rattle.pipe_core.specs.PipeRun.{AreOf}
 use Rattle.pipe_core.specs.PipeUses.{uses-more}
 use Rattle.pipe_core.specs.PipeView.{pipe_view, pipe_of}
 use Rattle.pipe_core.specs.Steps.{commits, retires, retired_where}
-use Rattle.pipe_core.specs.Table.{kept, table_after, TableValue}
+use Rattle.pipe_core.specs.Table.{kept, row_of, table_after, TableValue}
 use Rattle.pipe_core.specs.Wants.{access_in, goes_by}
 use Rattle.pipe_core.proofs.ChainLemmas.{retire-state}
 use Rattle.pipe_core.proofs.ChainStepLemmas.{KeepsState, committed}
 use Rattle.pipe_core.proofs.ClockTimeLemmas.{drain-table}
 use Rattle.pipe_core.proofs.MemLemmas.{request-same, finish-same}
+use Rattle.pipe_core.proofs.OnTimeLemmas.{past_of-append}
 use Rattle.pipe_core.proofs.RunLemmas.{of-rests, of-does}
 use Rattle.pipe_core.proofs.WantLemmas.{met-soon}
 
@@ -82,9 +86,23 @@ module _ (p : ImageValue) (c n budget clocks : ℕ) (f : Flight) (u : TableValue
       (request-same p f.executed (state_of f) m here ∙ g) k.1
       (k.0 ∙ sym (finish-same p f.executed (state_of f) m q word here g)) here.instr refl under.run
 
+  -- The last row is within the budget, or is that of the access.
+  drain-within : (mem : Option Slot) (access : Option Request) (came : Option ℕ) → access_in p f.executed mem ≡ access → IsSome access
+      → IsDoneByEnd clocks (prior (past_of [] (kept (goes_by mem access came) mem f.mem_times access (clocks + 1) u).instrs
+      (kept (goes_by mem access came) mem f.mem_times access (clocks + 1) u).rows))
+  drain-within None (Some q) came g some = cc
+  drain-within mem None came g some = cc
+  drain-within (Some m) (Some q) None g some = inl under.timed.punctual.before.m
+  drain-within (Some m) (Some q) (Some word) g some =
+      let row : TimeRow = row_of f.mem_times (Some (clocks + 1)) (clocks + 1) (Some (clocks + 1 + 1)) in
+      let past_is = past_of-append a.bound [] u.instrs u.rows m.instr row under.timed.rows in
+      let P : List Timed → Type 0 = λ past. IsDoneByEnd clocks (prior past) in
+      subst P (sym past_is) (inr (record { a = refl; m = refl }))
+
   -- The accesses after the end, and what was used.
   record AtEnd (access : Option Request) (came : Option ℕ) : Type 0 where
     bound : b.bound ≡ a.bound
+    clocks_are : b.service.clocks ≡ clocks
     accesses : b.service.accesses ≡ a.service.accesses ++ stamped (clocks + 1) (executed_by c access came)
     uses : UsesService b.service (drained p reply f).executed
 
@@ -100,6 +118,7 @@ module _ (p : ImageValue) (c n budget clocks : ℕ) (f : Flight) (u : TableValue
       let uses = uses-more a.service a.service f under.uses (omega arith) (omega arith) (omega arith) refl in
       record {
         bound = ap (λ (x : ServiceHistory). x.bound) after;
+        clocks_are = ap (λ (x : Service). x.clocks) service ∙ under.clocks;
         accesses = ap (λ (x : Service). x.accesses) service ∙ sym (append-nil a.service.accesses);
         uses = rw (service, same) uses;
       }
@@ -121,6 +140,7 @@ module _ (p : ImageValue) (c n budget clocks : ℕ) (f : Flight) (u : TableValue
       let made = uses.accesses in
       record {
         bound = ap (λ (x : ServiceHistory). x.bound) after;
+        clocks_are = clock ∙ under.clocks;
         accesses = accesses;
         uses = record {
           clocks = omega (arith, was, clock, unmet, executed);
@@ -138,6 +158,7 @@ module _ (p : ImageValue) (c n budget clocks : ℕ) (f : Flight) (u : TableValue
       let run = drain-run f.stages.mem (access_in p f.executed f.stages.mem) reply refl refl refl some in
       record {
         table = rw ends.bound table;
+        within = rw ends.clocks_are (drain-within f.stages.mem (access_in p f.executed f.stages.mem) reply refl some);
         run = rw ends.accesses run;
         uses = ends.uses;
       }

@@ -131,5 +131,5 @@ module _ (history : ServiceHistory) (v : PipeValue) (zero : history.bound ≡ So
   spent = record {
     table = timed.rows;
     within = rw under.clocks timed.punctual.before.m;
-    no_more = rw under.clocks (next-later f.stages.mem f.stages.ex f.stages.id refl refl refl);
+    no_more = rw under.clocks (let later = next-later f.stages.mem f.stages.ex f.stages.id refl refl refl in omega (arith, later));
   }

@@ -3,7 +3,8 @@ use Rattle.std.specs.Prelude.{◌≡◌, ℕ, ◌+◌, ◌*◌, ◌≤◌, Bool,
 use Rattle.mips_isa.specs.declared.Instr.{Instr}
 use Rattle.pipe_regs.specs.declared.Slot.{Slot}
 use Rattle.timetable.specs.declared.rows.TimeRow.{TimeRow}
-use Rattle.timetable.specs.Tables.{IsTable, IsStopRow, past_of}
+use Rattle.timetable.specs.Tables.{prior, IsTable, IsStopRow, past_of}
+use Rattle.timetable.specs.Ends.{IsDoneByEnd}
 use Rattle.timetable.specs.Trace.{instr_on}
 use Rattle.mem_port.specs.ServiceHistory.{Service, UsesService, ServiceHistory, one_if}
 use Rattle.pipe_core.specs.declared.flight.Flight.{Flight}
@@ -64,9 +65,10 @@ pub record HasStopped (history : ServiceHistory) (pipe : PipeValue) : Type 0 whe
   pub run : AreRun pipe history.service.accesses before earlier
   pub uses : UsesService history.service pipe.flight.executed
 
--- An engine whose budget ended while an access was wanted.
+-- An engine whose budget ended while an access was wanted: its last row is within the budget, or is that of this access.
 pub record IsDrained (history : ServiceHistory) (pipe : PipeValue) : Type 0 where
   pub table : IsTable history.bound [] pipe.table.instrs pipe.table.rows
+  pub within : IsDoneByEnd history.service.clocks (prior (past_of [] pipe.table.instrs pipe.table.rows))
   pub run : AreRun pipe history.service.accesses pipe.table.instrs pipe.table.rows
   pub uses : UsesService history.service pipe.flight.executed
 

@@ -1,10 +1,12 @@
 -- What is right on one machine, part by part.
-use Rattle.std.proofs.Common.{◌≡◌, ℕ, List, [], sym, subst}
+use Rattle.std.proofs.Common.{◌≡◌, ℕ, inl, inr, List, [], refl, sym, subst}
 use Rattle.std.specs.Prelude.{Some, slice_get, map}
 use Rattle.kmp_base.specs.declared.setup.Setup.{Setup}
 use Rattle.kmp_base.specs.declared.setup.MachineKind.{MachineKind}
 use Rattle.kmp_base.specs.declared.setup.MachineKind.TheVariants.{Plain, Pipe, Full}
 use Rattle.kmp_base.specs.declared.setup.Turns.{Turns}
+use Rattle.kmp_base.specs.declared.setup.Turns.TheVariants.{Threads}
+use Rattle.kmp_base.specs.Machines.{IsUncached}
 use Rattle.image_file.specs.Value.{ImageValue, start_memory, start_states}
 use Rattle.access_log.specs.declared.Entry.{Entry}
 use Rattle.access_log.specs.declared.Item.{Item}
@@ -21,29 +23,30 @@ pub record IsRightOn (machine : MachineKind) (setup : Setup) (image : ImageValue
       (map (λ (ended : CoreEnd). ended.retired) outcome.cores)
       ≡ Some (record { code = image.code; cores = map final_of outcome.cores; memory = outcome.words })
   pub ends : (core : ℕ) (ended : CoreEnd) → slice_get outcome.cores core ≡ Some ended → EndsOn machine setup image outcome core ended
-  pub follows : FollowsOn machine setup.cores image outcome.items
+  pub follows : FollowsOn machine setup image outcome.items
 
 module _ (machine : MachineKind) (setup : Setup) (image : ImageValue) (outcome : OutcomeValue) (is : setup.machine ≡ machine) where
   pub right-on : IsRight setup image outcome → IsRightOn machine setup image outcome
   right-on right = record {
     replays = right.replays;
     ends = λ core ended here. subst (λ (m : MachineKind). EndsOn m setup image outcome core ended) is (right.ends core ended here);
-    follows = subst (λ (m : MachineKind). FollowsOn m setup.cores image outcome.items) is right.follows;
+    follows = subst (λ (m : MachineKind). FollowsOn m setup image outcome.items) is right.follows;
   }
 
   pub right-from : IsRightOn machine setup image outcome → IsRight setup image outcome
   right-from right = record {
     replays = right.replays;
     ends = λ core ended here. subst (λ (m : MachineKind). EndsOn m setup image outcome core ended) (sym is) (right.ends core ended here);
-    follows = subst (λ (m : MachineKind). FollowsOn m setup.cores image outcome.items) (sym is) right.follows;
+    follows = subst (λ (m : MachineKind). FollowsOn m setup image outcome.items) (sym is) right.follows;
   }
 
 -- Without caches there is no transaction.
-pub no-transaction : (machine : MachineKind) (cores : ℕ) (image : ImageValue) (items : List Item) → FollowsOn machine cores image items
-    → transactions items ≡ []
-no-transaction Plain cores image items h = h
-no-transaction Pipe cores image items h = h
-no-transaction Full cores image items h = absurd h
+pub no-transaction : (machine : MachineKind) (setup : Setup) (image : ImageValue) (items : List Item) → IsUncached machine
+    → FollowsOn machine setup image items → transactions items ≡ []
+no-transaction Plain setup image items uncached h = h
+no-transaction Pipe setup image items uncached h = h
+no-transaction Full setup image items (inl is) h = cc
+no-transaction Full setup image items (inr is) h = cc
 
 -- The order of accesses by a machine and by turns.
 pub in-turns : (machine : MachineKind) (turns : Turns) (setup : Setup) (cycles : List ℕ) (tables : List (List TimeRow)) (order : List Entry)
@@ -52,3 +55,15 @@ pub in-turns : (machine : MachineKind) (turns : Turns) (setup : Setup) (cycles :
 in-turns machine turns setup cycles tables order is turns_are h =
     subst (λ (m : MachineKind). IsInTurnsOn m setup.turns setup.seed cycles tables order) (sym is)
     (subst (λ (t : Turns). IsInTurnsOn machine t setup.seed cycles tables order) (sym turns_are) h)
+
+-- Of cores on threads no order is told.
+any-order : (machine : MachineKind) (seed : ℕ) (cycles : List ℕ) (tables : List (List TimeRow)) (order : List Entry)
+    → IsInTurnsOn machine Threads seed cycles tables order
+any-order Plain seed cycles tables order = tt
+any-order Pipe seed cycles tables order = tt
+any-order Full seed cycles tables order = tt
+
+pub in-threads : (setup : Setup) (cycles : List ℕ) (tables : List (List TimeRow)) (order : List Entry) → setup.turns ≡ Threads
+    → IsInTurns setup cycles tables order
+in-threads setup cycles tables order threads =
+    in-turns setup.machine Threads setup cycles tables order refl threads (any-order setup.machine setup.seed cycles tables order)

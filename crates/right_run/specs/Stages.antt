@@ -25,7 +25,8 @@ executed_by image core cores accesses retired =
 -- When an end is right, by the instructions that were executed, by the one that comes next, and by what that does; on a memory on
 -- which nothing waits longer than a bound.
 -- Stopped: this stop comes next, in the last cycle, and that is within the budget.
--- Spent: all cycles of the budget are gone, and what comes next would not be done within them.
+-- Spent: all cycles of the budget are gone. Where there is a bound, what comes next would not be done within them; where answers may
+-- come late, the last access may have been found answered only as it was withdrawn.
 abbrev pub EndsInStages : End → Option ℕ → ℕ → List (Option Instr) → Option Instr → Next → ℕ → List TimeRow → Type 0
 EndsInStages (Stopped stop) bound budget instrs instr next cycles rows =
     (next ≡ Stops stop) × (cycles ≤ budget) × EndsInStop bound instrs instr cycles rows

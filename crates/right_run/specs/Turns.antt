@@ -41,12 +41,13 @@ AreInTurns Round seed cycles stamps = IsRising stamps
 AreInTurns Seeded seed cycles stamps = AreSeeded seed cycles stamps
 AreInTurns Threads seed cycles stamps = Unit {0}
 
--- The order of accesses, by the machine, with the cycles and the timetables of the cores. On a machine that isn't there yet none is
--- right.
+-- The order of accesses, by the machine, with the cycles and the timetables of the cores. Over caches nothing is told of it: an access
+-- that waits is done by a step in the cycle of some core, perhaps another one's, and the report has the cycle in which its own
+-- core took the answer, and not whose cycle that step was in.
 abbrev pub IsInTurnsOn : MachineKind → Turns → ℕ → List ℕ → List (List TimeRow) → List Entry → Type 0
 IsInTurnsOn Plain turns seed cycles tables order = AreInTurns turns seed cycles (in_cycles [] order)
 IsInTurnsOn Pipe turns seed cycles tables order = AreInTurns turns seed cycles (in_told_cycles tables order)
-IsInTurnsOn Full turns seed cycles tables order = ⊥
+IsInTurnsOn Full turns seed cycles tables order = Unit {0}
 
 abbrev pub IsInTurns : Setup → List ℕ → List (List TimeRow) → List Entry → Type 0
 IsInTurns setup cycles tables order = IsInTurnsOn setup.machine setup.turns setup.seed cycles tables order

@@ -1,5 +1,5 @@
 -- M bounds the clocks of its row and the number of the rows up to it, so a core's whole timetable is within its budget.
-use Rattle.std.proofs.Common.{◌≡◌, ℕ, ◌+◌, ◌<◌, ◌≤◌, List, [], ◌∷◌, length, sym, ◌∙◌, subst, ap, arith, length-append}
+use Rattle.std.proofs.Common.{◌≡◌, ℕ, zero, suc, ◌+◌, ◌<◌, ◌≤◌, inl, inr, List, [], ◌∷◌, length, sym, ◌∙◌, subst, ap, arith, length-append}
 use Rattle.std.specs.Prelude.{Option, Some, None, IfSome}
 use Rattle.std.specs.List.{AllByRecursion}
 use Rattle.std.proofs.lemmas.Grind.{common_steps}
@@ -8,7 +8,7 @@ use Rattle.mips_isa.specs.declared.Instr.{Instr}
 use Rattle.timetable.specs.declared.rows.TimeRow.{TimeRow}
 use Rattle.timetable.specs.Recurrence.{due_f, due_d, due_e, due_m}
 use Rattle.timetable.specs.Tables.{Timed, timed, prior, ready_for, Executes, IsRow, IsStopRow, IsTable, past_of}
-use Rattle.timetable.specs.Ends.{EndsInStop, EndsSpent}
+use Rattle.timetable.specs.Ends.{EndsInStop, IsDoneByEnd, IsLastBy, EndsSpent}
 use Rattle.timetable.proofs.WithinLaws.{all-within}
 
 -- All clocks of a row are so many at most.
@@ -111,19 +111,45 @@ module _ (bound : Option ℕ) where
         table-at-most limit (timed instr row ∷ past) instrs rows h.1 last,
       )
 
--- A whole timetable is within a budget: it has so many instructions and rows at most, and W is one clock behind it at most.
+  -- From the first row on, which leaves M in clock 2 at least.
+  rows-few : (limit : ℕ) (instrs : List (Option Instr)) (rows : List TimeRow) → IsTable bound [] instrs rows
+      → (prior (past_of [] instrs rows)).m ≤ limit + 1 → length rows ≤ limit
+  rows-few limit instrs [] h last = omega arith
+  rows-few limit [] (row ∷ rows) h last = absurd h
+  rows-few limit (instr ∷ instrs) (row ∷ rows) h last =
+      let before = before-e bound [] instr row.i row.f row.d row.e h.0.executes in
+      omega (arith, before.d, m-later bound [] instr row h.0, rows-before-m (timed instr row ∷ []) instrs rows h.1, last)
+
+-- A whole timetable is within a budget: it has so many instructions and rows at most, and W is one clock behind its M at most, which may
+-- be one behind the budget.
 pub record IsWithinBudget (budget : ℕ) (instrs : List (Option Instr)) (rows : List TimeRow) : Type 0 where
   pub executed : length instrs ≤ budget
   pub few : length rows ≤ budget
-  pub clocks : AllByRecursion (AreAtMost (budget + 1)) rows
+  pub clocks : AllByRecursion (AreAtMost (budget + 2)) rows
+
+last-done : (budget : ℕ) (row : TimeRow) → IsDoneByEnd budget row → row.m ≤ budget + 1
+last-done budget row (inl within) = omega (arith, within)
+last-done budget row (inr found) = omega (arith, found.m)
+
+last-by : (bound : Option ℕ) (budget : ℕ) (row : TimeRow) → IsLastBy bound budget row → row.m ≤ budget + 1
+last-by None budget row h = last-done budget row h
+last-by (Some zero) budget row h = omega (arith, h)
+last-by (Some (suc bound)) budget row h = last-done budget row h
+
+two-behind : (budget : ℕ) (rows : List TimeRow) → AllByRecursion (AreAtMost (budget + 1 + 1)) rows
+    → AllByRecursion (AreAtMost (budget + 2)) rows
+two-behind budget rows h =
+    let same : budget + 1 + 1 ≡ budget + 2 = omega arith in
+    subst (λ (most : ℕ). AllByRecursion (AreAtMost most) rows) same h
 
 pub spent-within : (bound : Option ℕ) (instrs : List (Option Instr)) (instr : Option Instr) (budget : ℕ) (rows : List TimeRow)
     → EndsSpent bound instrs instr budget rows → IsWithinBudget budget instrs rows
 spent-within bound instrs instr budget rows h =
-    let few = rows-before-m bound [] instrs rows h.table in record {
-      executed = omega (arith, table-length bound [] instrs rows h.table, few, h.within);
-      few = omega (arith, few, h.within);
-      clocks = table-at-most bound budget [] instrs rows h.table h.within;
+    let last = last-by bound budget (prior (past_of [] instrs rows)) h.within in
+    let few = rows-few bound budget instrs rows h.table last in record {
+      executed = omega (arith, table-length bound [] instrs rows h.table, few);
+      few = few;
+      clocks = two-behind budget rows (table-at-most bound (budget + 1) [] instrs rows h.table last);
     }
 
 pub stop-within : (bound : Option ℕ) (instrs : List (Option Instr)) (instr : Option Instr) (cycles budget : ℕ) (rows : List TimeRow)
@@ -133,12 +159,14 @@ stop-within bound instrs instr cycles budget rows h within =
     let before = before-e bound past instr h.row.i h.row.f h.row.d h.row.e h.last.executes in
     let few = rows-before-m bound [] instrs h.earlier h.table in
     let last : (prior past).m ≤ budget = omega (arith, before.m, h.last.m, h.at, within) in
-    let stop : h.row.m < budget + 1 = omega (arith, h.at, within) in
-    let clocks = AllByRecursion-append (AreAtMost (budget + 1)) h.earlier (h.row ∷ [])
-    (table-at-most bound budget [] instrs h.earlier h.table last) (stop-at-most bound past instr h.row (budget + 1) h.last stop, tt) in
+    let late : (prior past).m ≤ budget + 1 = omega (arith, last) in
+    let stop : h.row.m < budget + 2 = omega (arith, h.at, within) in
+    let earlier = two-behind budget h.earlier (table-at-most bound (budget + 1) [] instrs h.earlier h.table late) in
+    let clocks = AllByRecursion-append (AreAtMost (budget + 2)) h.earlier (h.row ∷ [])
+    earlier (stop-at-most bound past instr h.row (budget + 2) h.last stop, tt) in
     let count : length rows ≡ length h.earlier + 1 =
     ap (λ (rows : List TimeRow). length rows) h.are ∙ length-append h.earlier (h.row ∷ []) in record {
       executed = omega (arith, table-length bound [] instrs h.earlier h.table, few, last);
       few = omega (arith, count, few, before.m, h.last.m, h.at, within);
-      clocks = subst (AllByRecursion (AreAtMost (budget + 1))) (sym h.are) clocks;
+      clocks = subst (AllByRecursion (AreAtMost (budget + 2))) (sym h.are) clocks;
     }

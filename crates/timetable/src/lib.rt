@@ -7,6 +7,7 @@
 //! - `proofs/FirstClockLaws`: on a memory that answers at once the clocks are the first that can be.
 //! - `proofs/WithinLaws`: M rises along a table, so all rows are within a limit exactly where the last one is.
 //! - `proofs/ClockLaws`: M bounds the clocks of its row and the number of the rows, so a core's timetable is within its budget.
+//! - `proofs/BoundLaws`: what holds of a timetable under a bound holds of it without one.
 //! - `proofs/TraceLengthLaws`: a core that runs alone executes as many instructions as it is to.
 #![tactic(auto)]
 

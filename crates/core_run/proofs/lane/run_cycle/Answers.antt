@@ -56,5 +56,9 @@ returns-clause-made g c =
 pub returns-clause-served : goal.returns-clause-served
 returns-clause-served g c history served =
     let f = c.cycle-progress.ensures in
+    let n = c.cycle-progress.new in
+    let coupled = subst (λ (core : ℕ). IsCoupled (g.E.CoreEngine.view n.engine) (g.S.CoreSide.view n.side core) n.lane)
+    (sym (cycle-core f.cycle.1)) f.coupled in
     served-ended g.E.CoreEngine.view g.E.CoreEngine.timed g.S.CoreSide.view f.cycle.1 c.args.budget c.args.cycles
-    c.finish.ensures.ending.1.1 history c.in_ok-end.end f.kept c.finish.ensures.kept f.progressed c.requires.on.live served (search rules)
+    c.finish.ensures.ending.1.1 history c.in_ok-end.end f.kept c.finish.ensures.kept coupled f.progressed c.requires.on.live served
+    (search rules)
