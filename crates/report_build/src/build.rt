@@ -1,7 +1,8 @@
 //! The report of a run's outcome.
-ghost use Rattle.std.specs.Prelude.{◌≡◌, ◌*◌, ◌^◌, ◌<◌, ◌≤◌, [], length, map, count_by, sum_by, IfOk};
+ghost use Rattle.std.specs.Prelude.{◌≡◌, ◌*◌, ◌^◌, ◌<◌, ◌≤◌, None, [], length, map, count_by, sum_by, IfOk};
 ghost use Rattle.std.specs.List.{All};
 ghost use Rattle.kmp_base.specs.Limits.{IsWithinLimits};
+ghost use Rattle.kmp_base.specs.Machines.{IsUncached};
 ghost use Rattle.mips_isa.specs.declared.Kind.TheVariants.{Lw, Sw, Cas};
 ghost use Rattle.access_log.specs.Items.{entries, transactions};
 ghost use Rattle.timetable.specs.Waits.{fetch_waits, operand_waits, access_waits};
@@ -128,7 +129,7 @@ fn all_waits(cores: &[CoreEnd]) -> Waits
 #[tactic(auto, unfolding(report_text::specs::Counts::counts_of))]
 pub fn counts_of(cores: &[CoreEnd], items: &[Item]) -> Counts
     requires few { length cores.now ≤ 8 }
-    ensures counts { result.values ≡ counts_of (map end_value cores.now) items.now }
+    ensures counts { result.values ≡ counts_of None (map end_value cores.now) items.now }
     ensures fit { All IsCount result.values }
 {
     let accesses = count_accesses(items);
@@ -146,7 +147,7 @@ pub fn counts_of(cores: &[CoreEnd], items: &[Item]) -> Counts
 }
 
 /// The report of an outcome: it keeps the setup, the image, the history and the ends as they are. Where the outcome is
-/// right, it is within the bounds of those that are read. It fails only for want of memory.
+/// right and of a machine whose reports are read, it is within the bounds of these. It fails only for want of memory.
 #[tactic(auto, unfolding(report_text::specs::Report::report_of))]
 pub fn build_report(
     alloc: Global,
@@ -159,7 +160,7 @@ pub fn build_report(
     requires words { length outcome.words ≡ 2 * image.memory_lines }
     requires no_transaction { transactions outcome.items ≡ [] }
     ensures report { IfOk result (λ report. report ≡ report_of setup.now image outcome) }
-    ensures form { IfOk result (λ report. IsRight setup.now image outcome → IsReport report) }
+    ensures form { IfOk result (λ report. IsUncached setup.now.machine → IsRight setup.now image outcome → IsReport report) }
 {
     let Outcome {
         cores,

@@ -38,10 +38,12 @@ image_of_meaning bytes image e = rw (in_of_meaning bytes image (image_in bytes) 
 spelling_of : (bytes : List ℕ) (image : ImageValue) → AreBytes bytes → image_meaning bytes ≡ Ok image → bytes ≡ image_bytes image
 spelling_of bytes image are e = only_spelling bytes image (each_byte bytes are) (in_of_meaning bytes image (image_in bytes) refl e)
 
--- its memory has few bytes
-pub memory_small : (image : ImageValue) → length (image_bytes image) < 2 ^ 32 → image_meaning (image_bytes image) ≡ Ok image
-    → memory_bytes image ≤ 2 ^ 32
-memory_small image few e = omega (arith, (image_is_good image few e).lines)
+-- its memory has a line, and few bytes
+pub memory_fits : (image : ImageValue) → length (image_bytes image) < 2 ^ 32 → image_meaning (image_bytes image) ≡ Ok image
+    → (8 ≤ memory_bytes image) × (memory_bytes image ≤ 2 ^ 32)
+memory_fits image few e =
+    let good = image_is_good image few e in
+    (omega (arith, good.two_lines), omega (arith, good.lines))
 
 -- ---- the row
 

@@ -1,6 +1,7 @@
 pub mod RowLemmas
 pub mod SizeLemmas
 pub mod LoopLemmas
+pub mod ItemLemmas
 pub mod ListLaws
 pub mod OpeningLaws
 pub mod LastRowLaws

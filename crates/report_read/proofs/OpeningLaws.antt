@@ -6,9 +6,8 @@ use Rattle.std.specs.List.{range_with_len}
 use Rattle.std.proofs.lemmas.List.{append-nil, take-append-drop, length-take-le, length-replicate, take-append-le, drop-append-le, take_all}
 use Rattle.std.proofs.lemmas.List.{nil_from_length, take_at, drop_at}
 use Rattle.kmp_base.specs.declared.setup.Setup.{Setup}
-use Rattle.kmp_base.specs.Machines.{IsUncached}
 use Rattle.kmp_base.specs.declared.setup.MachineKind.{MachineKind}
-use Rattle.kmp_base.specs.declared.setup.MachineKind.TheVariants.{Plain}
+use Rattle.kmp_base.specs.declared.setup.MachineKind.TheVariants.{Plain, Pipe, Full}
 use Rattle.kmp_base.specs.declared.setup.Policy.{Policy}
 use Rattle.kmp_base.specs.declared.setup.Policy.TheVariants as policies
 use Rattle.kmp_base.specs.declared.setup.Turns.{Turns}
@@ -20,7 +19,7 @@ use Rattle.kmp_base.specs.Bind.{◌>>=◌}
 use Rattle.row_reader.specs.Reading.{row_at}
 use Rattle.row_reader.proofs.PartLaws.{one_line, row_part, then_part}
 use Rattle.row_reader.proofs.ManyLaws.{part_as, last_part, map_part, then_known, last_known}
-use Rattle.report_rows.specs.Bounds.{IsByte, IsHeader}
+use Rattle.report_rows.specs.Bounds.{IsReadable, most_ways, IsByte, IsHeader}
 use Rattle.report_rows.specs.Rows.{number_row, bytes_row, bytes_row_at, header_rows}
 use Rattle.report_row_reader.specs.Reading.{bytes_row_of}
 use Rattle.report_row_reader.proofs.RowLaws.{fixed_law, number_law, machine_law, sets_law, policy_law, turns_law, bytes_law}
@@ -52,20 +51,39 @@ setup_is : (z : Setup) (machine : MachineKind) (cores budget : ℕ) (policy : Po
     → make_setup machine cores budget policy turns seed sets ways ≡ z
 setup_is z machine cores budget policy turns seed sets ways a b c d e f g h = let all = make_setup_is z in cc
 
--- what its rows say, in their order
-abbrev HeaderFields : Setup → Type 0
-HeaderFields z =
-    Unit {0} × (Unit {0} × (IsUncached z.machine
-    × (((1 ≤ z.cores) × (z.cores ≤ 8)) × (((1 ≤ z.budget) × (z.budget ≤ 100000))
+-- what the rows behind the machine say, in their order
+abbrev FieldsOn : MachineKind → Setup → Type 0
+FieldsOn machine z =
+    ((1 ≤ z.cores) × (z.cores ≤ 8)) × (((1 ≤ z.budget) × (z.budget ≤ 100000))
     × (Unit {0} × (Unit {0}
     × (((0 ≤ z.seed) × (z.seed ≤ 2 ^ 32 - 1))
-    × ((((k : ℕ) × (z.sets ≡ 2 ^ k)) × (z.sets ≤ 256)) × (((1 ≤ z.ways) × (z.ways ≤ 8)) × Unit {0})))))))))
+    × ((((k : ℕ) × (z.sets ≡ 2 ^ k)) × (z.sets ≤ 256)) × (((1 ≤ z.ways) × (z.ways ≤ most_ways machine)) × Unit {0}))))))
+
+-- what all its rows say
+abbrev HeaderFields : Setup → Type 0
+HeaderFields z = Unit {0} × (Unit {0} × (IsReadable z.machine × FieldsOn z.machine z))
+
+-- a header with this machine
+abbrev HasMachine : MachineKind → Unit {0} → Setup → Type 0
+HasMachine machine title z = (z.machine ≡ machine) × ((tt ≡ title) × Unit {0})
+
+some_way : (machine : MachineKind) → 1 ≤ most_ways machine
+some_way Plain = omega arith
+some_way Pipe = omega arith
+some_way Full = omega arith
+
+few_ways : (machine : MachineKind) → most_ways machine ≤ 8
+few_ways Plain = omega arith
+few_ways Pipe = omega arith
+few_ways Full = omega arith
 
 header_fields : IsPart HeaderFields header_rows header_at
 unfolding header_at caches_at header_rows make_setup
 header_fields =
     then_known _ _ _ (λ z. tt) _ _ _ _ (row_part _ _ _ (fixed_law (codes "kmp-report" ∷ codes "1" ∷ [])) (tt, tt)) (λ title _.
     then_known _ _ _ (λ z. z.machine) _ _ _ _ (row_part _ _ _ machine_law (Plain, inl refl)) (λ machine _.
+    part_as (λ z. HasMachine machine title z × FieldsOn machine z) (λ z. HasMachine machine title z × FieldsOn z.machine z) _ _ _
+    (λ z h. (h.0, subst (λ m. FieldsOn m z) (sym h.0.0) h.1)) (λ z h. (h.0, subst (λ m. FieldsOn m z) h.0.0 h.1)) (λ z h. refl) (
     then_known _ _ _ (λ z. z.cores) _ _ _ _ (row_part _ _ _ (number_law (codes "cores") 1 8 (omega arith)) (1, (omega arith, omega arith)))
     (λ cores _.
     then_known _ _ _ (λ z. z.budget) _ _ _ _
@@ -75,8 +93,8 @@ header_fields =
     then_known _ _ _ (λ z. z.seed) _ _ _ _
     (row_part _ _ _ (number_law (codes "seed") 0 (2 ^ 32 - 1) (omega arith)) (0, (omega arith, omega arith))) (λ seed _.
     then_known _ _ _ (λ z. z.sets) _ _ _ _ (row_part _ _ _ sets_law (1, ((0, refl), omega arith))) (λ sets _.
-    then_known _ _ _ (λ z. z.ways) _ _ _ _ (row_part _ _ _ (number_law (codes "ways") 1 8 (omega arith)) (1, (omega arith, omega arith)))
-    (λ ways _.
+    then_known _ _ _ (λ z. z.ways) _ _ _ _ (row_part _ _ _ (number_law (codes "ways") 1 (most_ways machine) (omega (arith, few_ways machine)))
+    (1, (omega arith, some_way machine))) (λ ways _.
     last_known (record {
       machine = machine;
       cores = cores;
@@ -89,7 +107,7 @@ header_fields =
     }) _
     (λ z k. setup_is z machine cores budget policy turns seed sets ways k.1.1.1.1.1.1.1.0 k.1.1.1.1.1.1.0 k.1.1.1.1.1.0 k.1.1.1.1.0
     k.1.1.1.0 k.1.1.0 k.1.0 k.0)
-    (refl, (refl, (refl, (refl, (refl, (refl, (refl, (refl, (refl, tt))))))))))))))))))
+    (refl, (refl, (refl, (refl, (refl, (refl, (refl, (refl, (refl, tt)))))))))))))))))))
 
 header_part : IsPart IsHeader header_rows header_at
 header_part =
@@ -104,8 +122,9 @@ header_part =
         power_of_two = h.1.1.1.1.1.1.1.1.0.0;
         sets = h.1.1.1.1.1.1.1.1.0.1;
         some_ways = h.1.1.1.1.1.1.1.1.1.0.0;
-        ways = h.1.1.1.1.1.1.1.1.1.0.1;
+        ways = omega (arith, h.1.1.1.1.1.1.1.1.1.0.1, few_ways z.machine);
       };
+      ways = h.1.1.1.1.1.1.1.1.1.0.1;
       seed = omega (arith, h.1.1.1.1.1.1.1.0.1);
     })
     (λ z i. (
@@ -124,7 +143,7 @@ header_part =
                   tt,
                   (
                     (omega arith, omega (arith, i.seed)),
-                    ((i.limits.power_of_two, i.limits.sets), ((i.limits.some_ways, i.limits.ways), tt)),
+                    ((i.limits.power_of_two, i.limits.sets), ((i.limits.some_ways, i.ways), tt)),
                   ),
                 ),
               ),

@@ -1,14 +1,14 @@
 -- What follows a report's image is read as what it spells.
-use Rattle.std.proofs.Common.{◌≡◌, ℕ, suc, ◌+◌, ◌*◌, ◌^◌, ◌<◌, ◌≤◌, List, [], ◌∷◌, ◌++◌, length, map, refl, sym, ap, subst, ◌∙◌, arith}
+use Rattle.std.proofs.Common.{◌≡◌, ℕ, suc, ◌+◌, ◌*◌, ◌^◌, ◌<◌, ◌≤◌, List, [], ◌∷◌, ◌++◌, length, map, refl, sym, ap, subst, ◌∙◌}
+use Rattle.std.proofs.Common.{true, arith}
 use Rattle.std.specs.Prelude.{codes, slice_index}
 use Rattle.std.specs.List.{AllByRecursion, range_with_len}
 use Rattle.std.proofs.lemmas.List.{length-map}
 use Rattle.std.proofs.lemmas.List.FromFn.{length-range_with_len}
 use Rattle.kmp_base.specs.declared.setup.Setup.{Setup}
-use Rattle.access_log.specs.declared.Entry.{Entry}
+use Rattle.kmp_base.specs.declared.setup.MachineKind.{MachineKind}
 use Rattle.access_log.specs.declared.Item.{Item}
 use Rattle.access_log.specs.declared.Item.TheVariants.{Done, Bus}
-use Rattle.access_log.specs.Items.{entries}
 use Rattle.image_file.specs.Value.{ImageValue, memory_bytes}
 use Rattle.row_reader.specs.Rows.{Row, Rows, is_named}
 use Rattle.row_reader.specs.Reading.{row_at}
@@ -18,13 +18,13 @@ use Rattle.row_reader.proofs.ManyLaws.{part_as, AreRows, BeginsOther, each_part,
 use Rattle.row_reader.proofs.EachManyLaws.{each_many_known}
 use Rattle.report_rows.specs.declared.MemoryWord.{MemoryWord}
 use Rattle.report_rows.specs.Ends.{EndValue}
-use Rattle.report_rows.specs.Bounds.{IsHeader, IsEntry, IsItem, most_rows, IsEnd, IsMemoryWord, AreMemoryWords, IsCount}
-use Rattle.report_rows.specs.Rows.{entry_row, item_row, core_rows, core_row, registers_row, memory_row, count_row, access_count_rows}
+use Rattle.report_rows.specs.Bounds.{IsHeader, IsItem, most_rows, IsEnd, IsMemoryWord, AreMemoryWords, IsCount}
+use Rattle.report_rows.specs.Rows.{item_row, core_rows, core_row, registers_row, memory_row, count_row, access_count_rows}
 use Rattle.report_rows.specs.Rows.{bus_count_rows, wait_count_rows, timed_row}
 use Rattle.report_rows.specs.Names.{count_names}
-use Rattle.report_row_reader.specs.Reading.{entry_row_of, memory_row_of, count_row_of, NumberedRow, after_row, is_timed, timed_row_of}
+use Rattle.report_row_reader.specs.Reading.{is_item, item_row_of, memory_row_of, count_row_of, NumberedRow, after_row, is_timed, timed_row_of}
 use Rattle.report_row_reader.proofs.TimedLaws.{FitsAt, TimetableFits, timed_rows, timed_apart}
-use Rattle.report_row_reader.proofs.RowLaws.{fixed_law, entry_law, memory_law, count_law}
+use Rattle.report_row_reader.proofs.RowLaws.{fixed_law, item_law, memory_law, count_law}
 use Rattle.report_text.specs.Report.{ReportValue}
 use Rattle.report_text.specs.Text.{rows_of_cores, rows_of_timetables, count_rows}
 use Rattle.report_read.specs.Reading.{after_word, timed, with_timetables, counts_at, outcome_at}
@@ -33,55 +33,39 @@ use Rattle.report_read.proofs.CoreLaws.{AreEnds, ends_part}
 use Rattle.report_read.proofs.TimetableLemmas.{bare, together, apart_ends, apart_timetables, ends_to, ends_from, timed_lines, bare_rows}
 use Rattle.report_read.proofs.TimetableLemmas.{timetables_spelled, timetables_other}
 
--- ---- accesses
+-- ---- the history
 
--- accesses as items
-abbrev done_of : List Entry → List Item
-done_of accesses = map (λ (entry : Entry). Done entry) accesses
+-- items that reading goes through one by one
+abbrev AreItems : MachineKind → ℕ → ℕ → ℕ → List Item → Type 0
+AreItems machine cores bytes low items = AreFit (λ low. IsItem machine cores bytes) (λ item. 0) low items
 
--- items of which each is an access
-abbrev AreDone : List Item → Type 0
-AreDone items = done_of (entries items) ≡ items
+items_to : (machine : MachineKind) (cores bytes low : ℕ) (items : List Item) → AreItems machine cores bytes low items
+    → AllByRecursion (IsItem machine cores bytes) items
+items_to machine cores bytes low [] are = tt
+items_to machine cores bytes low (item ∷ items) are = (are.0, items_to machine cores bytes 0 items are.1)
 
-entries_done : (accesses : List Entry) → entries (done_of accesses) ≡ accesses
-entries_done [] = refl
-entries_done (entry ∷ accesses) = ap (λ others. entry ∷ others) (entries_done accesses)
+items_from : (machine : MachineKind) (cores bytes low : ℕ) (items : List Item) → AllByRecursion (IsItem machine cores bytes) items
+    → AreItems machine cores bytes low items
+items_from machine cores bytes low [] are = tt
+items_from machine cores bytes low (item ∷ items) are = (are.0, items_from machine cores bytes 0 items are.1)
 
--- accesses that reading goes through one by one
-abbrev AreEntries : ℕ → ℕ → ℕ → List Entry → Type 0
-AreEntries cores bytes low accesses = AreFit (λ low. IsEntry cores bytes) (λ entry. 0) low accesses
+item_passes : (item : Item) → is_item (item_row item) ≡ true
+item_passes (Done entry) = refl
+item_passes (Bus transaction) = refl
 
-items_done : (cores bytes : ℕ) (items : List Item) → AllByRecursion (IsItem cores bytes) items → AreDone items
-items_done cores bytes [] are = refl
-items_done cores bytes (Done entry ∷ items) are = ap (λ others. Done entry ∷ others) (items_done cores bytes items are.1)
-items_done cores bytes (Bus transaction ∷ items) are = absurd are.0
+-- the bytes of a memory of some lines
+abbrev pub IsMemory : ℕ → Type 0
+IsMemory bytes = (8 ≤ bytes) × (bytes ≤ 2 ^ 32)
 
-entries_fit : (cores bytes low : ℕ) (items : List Item) → AllByRecursion (IsItem cores bytes) items
-    → AreEntries cores bytes low (entries items)
-entries_fit cores bytes low [] are = tt
-entries_fit cores bytes low (Done entry ∷ items) are = (are.0, entries_fit cores bytes 0 items are.1)
-entries_fit cores bytes low (Bus transaction ∷ items) are = absurd are.0
+item_rows : (machine : MachineKind) (cores bytes : ℕ) → 1 ≤ cores → cores ≤ 8 → IsMemory bytes
+    → AreRows (λ low. IsItem machine cores bytes) item_row is_item (λ low. item_row_of machine cores bytes)
+item_rows machine cores bytes some few memory =
+    let law = item_law machine cores bytes some few memory.0 memory.1 in
+    record { found = λ low row x e. law.found row x e; again = λ low x fits. law.again x fits; pass = λ low x fits. item_passes x }
 
-done_fit : (cores bytes low : ℕ) (accesses : List Entry) → AreEntries cores bytes low accesses
-    → AllByRecursion (IsItem cores bytes) (done_of accesses)
-done_fit cores bytes low [] are = tt
-done_fit cores bytes low (entry ∷ accesses) are = (are.0, done_fit cores bytes 0 accesses are.1)
-
-done_rows : (accesses : List Entry) → map entry_row accesses ≡ map item_row (done_of accesses)
-done_rows [] = refl
-done_rows (entry ∷ accesses) = ap (λ (r : Rows). entry_row entry ∷ r) (done_rows accesses)
-
-entry_rows : (cores bytes : ℕ) → 1 ≤ cores → cores ≤ 8 → bytes ≤ 2 ^ 32
-    → AreRows (λ low. IsEntry cores bytes) entry_row (is_named (codes "A")) (λ low. entry_row_of cores bytes)
-entry_rows cores bytes some few small = record {
-  found = λ low row x e. (entry_law cores bytes some few small).found row x e;
-  again = λ low x fits. (entry_law cores bytes some few small).again x fits;
-  pass = λ low x fits. refl;
-}
-
--- the rows of some cores begin with no access
+-- the rows of some cores begin with none of a history
 cores_other : (budget cores : ℕ) (ended : List EndValue) (rest : Rows) → 1 ≤ cores → AreEnds budget cores ended
-    → BeginsOther (is_named (codes "A")) (rows_of_cores 0 ended ++ rest)
+    → BeginsOther is_item (rows_of_cores 0 ended ++ rest)
 unfolding core_rows
 cores_other budget cores [] rest some h = absurd (omega (arith, h.0))
 cores_other budget cores (z ∷ ended) rest some h = record {
@@ -192,7 +176,7 @@ end_row = codes "end" ∷ []
 
 -- The bounds that what was done and how it ended keep.
 pub record IsOutcome (z : ReportValue) : Type 0 where
-  pub items : AllByRecursion (IsItem z.setup.cores (memory_bytes z.image)) z.items
+  pub items : AllByRecursion (IsItem z.setup.machine z.setup.cores (memory_bytes z.image)) z.items
   pub cores : length z.cores ≡ z.setup.cores
   pub ends : AllByRecursion (IsEnd z.setup.budget (most_rows z.setup.machine)) z.cores
   pub words : AreMemoryWords (memory_bytes z.image) (4 * length z.image.code) z.words
@@ -218,26 +202,25 @@ make_report_is : (z : ReportValue) → make_report z.setup z.image z.items z.cor
 unfolding make_report
 make_report_is z = refl
 
-report_is : (z : ReportValue) (setup : Setup) (image : ImageValue) (accesses : List Entry) (ends : List EndValue) (words : List MemoryWord)
+report_is : (z : ReportValue) (setup : Setup) (image : ImageValue) (items : List Item) (ends : List EndValue) (words : List MemoryWord)
     (timetables : List (List NumberedRow)) (counts : List ℕ)
-    → AreDone z.items → z.setup ≡ setup → z.image ≡ image → entries z.items ≡ accesses → map bare z.cores ≡ ends → z.words ≡ words
+    → z.setup ≡ setup → z.image ≡ image → z.items ≡ items → map bare z.cores ≡ ends → z.words ≡ words
     → map timed z.cores ≡ timetables → z.counts ≡ counts
-    → make_report setup image (done_of accesses) (with_timetables ends timetables) words counts ≡ z
-report_is z setup image accesses ends words timetables counts done a b c d e f g =
+    → make_report setup image items (with_timetables ends timetables) words counts ≡ z
+report_is z setup image items ends words timetables counts a b c d e f g =
     let all = make_report_is z in
-    let items : done_of accesses ≡ z.items = ap done_of (sym c) ∙ done in
     let cores : with_timetables ends timetables ≡ z.cores = ap (λ es. with_timetables es timetables) (sym d)
     ∙ ap (with_timetables (map bare z.cores)) (sym f) ∙ together z.cores in
     cc
 
--- a report of this setup and this image whose items are accesses
+-- a report of this setup and this image
 abbrev IsOf : Setup → ImageValue → ReportValue → Type 0
-IsOf setup image z = AreDone z.items × ((z.setup ≡ setup) × (z.image ≡ image))
+IsOf setup image z = (z.setup ≡ setup) × (z.image ≡ image)
 
 -- what the rows behind the image say, in their order
 abbrev OutcomeFields : Setup → ImageValue → ReportValue → Type 0
 OutcomeFields setup image z =
-    AreEntries setup.cores (memory_bytes image) 0 (entries z.items)
+    AreItems setup.machine setup.cores (memory_bytes image) 0 z.items
     × (AreEnds setup.budget setup.cores (map bare z.cores)
     × (AreWords (memory_bytes image) (4 * length image.code) z.words
     × (AreTimetables (most_rows setup.machine) setup.cores (map timed z.cores) × (AreCounts z.counts × (Unit {0} × Unit {0})))))
@@ -250,18 +233,18 @@ rows_timed setup z = each_spell timed_lines (range_with_len 0 setup.cores) (map 
 -- the rows behind the image as they are read
 abbrev rows_read : Setup → ReportValue → Rows
 rows_read setup z =
-    map entry_row (entries z.items) ++ (rows_of_cores 0 (map bare z.cores) ++ (map memory_row z.words ++ rows_timed setup z))
+    map item_row z.items ++ (rows_of_cores 0 (map bare z.cores) ++ (map memory_row z.words ++ rows_timed setup z))
 
 outcome_fields : (setup : Setup) (image : ImageValue) → 1 ≤ setup.cores → setup.cores ≤ 8 → setup.budget < 2 ^ 64
-    → memory_bytes image ≤ 2 ^ 32
+    → IsMemory (memory_bytes image)
     → IsPart (λ z. IsOf setup image z × OutcomeFields setup image z) (rows_read setup) (outcome_at setup image)
 unfolding outcome_at make_report
-outcome_fields setup image some few budget small =
+outcome_fields setup image some few budget memory =
     let most = most_rows setup.machine in
-    many_known _ _ _ _ _ 0 (λ z. entries z.items) _ _ _ _ (entry_rows setup.cores (memory_bytes image) some few small)
-    (λ z h. cores_other setup.budget setup.cores (map bare z.cores) (map memory_row z.words ++ rows_timed setup z) some h.0) (λ accesses _.
+    many_known _ _ _ _ _ 0 (λ z. z.items) _ _ _ _ (item_rows setup.machine setup.cores (memory_bytes image) some few memory)
+    (λ z h. cores_other setup.budget setup.cores (map bare z.cores) (map memory_row z.words ++ rows_timed setup z) some h.0) (λ items _.
     then_known _ _ _ (λ z. map bare z.cores) _ _ _ _ (ends_part setup.budget setup.cores budget) (λ ends are.
-    many_known _ _ _ _ _ (4 * length image.code) (λ z. z.words) _ _ _ _ (word_rows (memory_bytes image) small)
+    many_known _ _ _ _ _ (4 * length image.code) (λ z. z.words) _ _ _ _ (word_rows (memory_bytes image) memory.1)
     (λ z h. timetables_other (range_with_len 0 setup.cores) (map timed z.cores) (count_rows z.counts ++ ((end_row ∷ []) ++ []))
     (counts_other z.counts ((end_row ∷ []) ++ []))) (λ words _.
     each_many_known (λ core. FitsAt most) (λ core it. timed_row core it.n it.row) is_timed (timed_row_of most) after_row (timed_rows most)
@@ -274,13 +257,13 @@ outcome_fields setup image some few budget small =
     last_known (record {
       setup = setup;
       image = image;
-      items = done_of accesses;
+      items = items;
       cores = with_timetables ends timetables;
       words = words;
       counts = counts;
     }) _
-    (λ z k. report_is z setup image accesses ends words timetables counts k.1.1.1.1.1.1.0 k.1.1.1.1.1.1.1.0 k.1.1.1.1.1.1.1.1 k.1.1.1.1.1.0
-    k.1.1.1.1.0 k.1.1.1.0 k.1.1.0 k.1.0) (
+    (λ z k. report_is z setup image items ends words timetables counts k.1.1.1.1.1.1.0 k.1.1.1.1.1.1.1 k.1.1.1.1.1.0 k.1.1.1.1.0 k.1.1.1.0
+    k.1.1.0 k.1.0) (
       refl,
       (
         refl,
@@ -290,7 +273,7 @@ outcome_fields setup image some few budget small =
             refl,
             (
               apart_ends setup.budget ends timetables same are.1,
-              (entries_done accesses, (ap done_of (entries_done accesses), (refl, refl))),
+              (refl, (refl, refl)),
             ),
           ),
         ),
@@ -301,17 +284,16 @@ outcome_to : (setup : Setup) (image : ImageValue) (z : ReportValue) → IsOf set
     → IsOutcomeOf setup image z
 outcome_to setup image z h =
     let bytes = memory_bytes image in
-    let items : AllByRecursion (IsItem setup.cores bytes) z.items =
-    subst (AllByRecursion (IsItem setup.cores bytes)) h.0.0 (done_fit setup.cores bytes 0 (entries z.items) h.1.0) in
+    let items : AllByRecursion (IsItem setup.machine setup.cores bytes) z.items = items_to setup.machine setup.cores bytes 0 z.items h.1.0 in
     let words : AreMemoryWords bytes (4 * length image.code) z.words = words_to bytes (4 * length image.code) z.words h.1.1.1.0 in
     let timetables = timetables_to (most_rows setup.machine) setup.cores (map timed z.cores) h.1.1.1.1.0 in
     let ends = ends_to setup.budget (most_rows setup.machine) z.cores h.1.1.0.1 timetables.1 in
-    let s = sym h.0.1.0 in
-    let i = sym h.0.1.1 in (
-      h.0.1,
+    let s = sym h.0.0 in
+    let i = sym h.0.1 in (
+      h.0,
       record {
-        items = subst (λ (m : ImageValue). AllByRecursion (IsItem z.setup.cores (memory_bytes m)) z.items) i
-            (subst (λ (t : Setup). AllByRecursion (IsItem t.cores bytes) z.items) s items);
+        items = subst (λ (m : ImageValue). AllByRecursion (IsItem z.setup.machine z.setup.cores (memory_bytes m)) z.items) i
+            (subst (λ (t : Setup). AllByRecursion (IsItem t.machine t.cores bytes) z.items) s items);
         cores = sym (length-map z.cores bare) ∙ h.1.1.0.0 ∙ ap (λ (t : Setup). t.cores) s;
         ends = subst (λ (t : Setup). AllByRecursion (IsEnd t.budget (most_rows t.machine)) z.cores) s ends;
         words = subst (λ (m : ImageValue). AreMemoryWords (memory_bytes m) (4 * length m.code) z.words) i words;
@@ -329,32 +311,30 @@ outcome_from setup image z h =
     let ends = ends_from z.setup.budget most z.cores o.ends in
     let timetables = timetables_from most z.setup.cores (map timed z.cores) (length-map z.cores timed ∙ o.cores) ends.1 in
     let fields : OutcomeFields z.setup z.image z = (
-      entries_fit z.setup.cores bytes 0 z.items o.items,
+      items_from z.setup.machine z.setup.cores bytes 0 z.items o.items,
       (
         (length-map z.cores bare ∙ o.cores, ends.0),
         (words_from bytes (4 * length z.image.code) z.words o.words, (timetables, ((o.thirteen, o.counts), (tt, tt)))),
       ),
     ) in (
-      (items_done z.setup.cores bytes z.items o.items, h.0),
+      h.0,
       subst (λ (m : ImageValue). OutcomeFields setup m z) h.0.1 (subst (λ (t : Setup). OutcomeFields t z.image z) h.0.0 fields),
     )
 
-outcome_rows_are : (setup : Setup) (z : ReportValue) → AreDone z.items → length z.cores ≡ setup.cores → rows_read setup z ≡ rows_behind z
-outcome_rows_are setup z done same =
+outcome_rows_are : (setup : Setup) (z : ReportValue) → length z.cores ≡ setup.cores → rows_read setup z ≡ rows_behind z
+outcome_rows_are setup z same =
     let others : Rows = count_rows z.counts ++ end_row ∷ [] in
-    ap (λ (r : Rows). r ++ (rows_of_cores 0 (map bare z.cores) ++ (map memory_row z.words ++ rows_timed setup z)))
-    (done_rows (entries z.items) ∙ ap (map item_row) done)
-    ∙ ap (λ (r : Rows). map item_row z.items ++ (r ++ (map memory_row z.words ++ rows_timed setup z))) (bare_rows 0 z.cores)
+    ap (λ (r : Rows). map item_row z.items ++ (r ++ (map memory_row z.words ++ rows_timed setup z))) (bare_rows 0 z.cores)
     ∙ ap (λ (r : Rows). map item_row z.items ++ (rows_of_cores 0 z.cores ++ (map memory_row z.words ++ (r ++ others))))
     (timetables_spelled 0 setup.cores z.cores same)
 
-pub outcome_part : (setup : Setup) (image : ImageValue) → IsHeader setup → memory_bytes image ≤ 2 ^ 32
+pub outcome_part : (setup : Setup) (image : ImageValue) → IsHeader setup → IsMemory (memory_bytes image)
     → IsPart (IsOutcomeOf setup image) rows_behind (outcome_at setup image)
-outcome_part setup image header small =
+outcome_part setup image header memory =
     let few : setup.cores ≤ 8 = header.limits.cores in
     let most : setup.budget ≤ 100000 = header.limits.budget in
     part_as (λ z. IsOf setup image z × OutcomeFields setup image z) (IsOutcomeOf setup image) (rows_read setup) rows_behind
     (outcome_at setup image)
     (outcome_to setup image) (outcome_from setup image)
-    (λ z h. outcome_rows_are setup z h.0.0 (sym (length-map z.cores bare) ∙ h.1.1.0.0))
-    (outcome_fields setup image header.limits.some_cores few (omega (arith, most)) small)
+    (λ z h. outcome_rows_are setup z (sym (length-map z.cores bare) ∙ h.1.1.0.0))
+    (outcome_fields setup image header.limits.some_cores few (omega (arith, most)) memory)

@@ -20,6 +20,7 @@ use Rattle.report_row_reader.proofs.PlainRowLaws.{count_rows_plain}
 use Rattle.report_text.specs.Report.{ReportValue}
 use Rattle.report_text.specs.Text.{image_rows, rows_of_cores, rows_of_timetables, count_rows, run_rows, outcome_rows, report_rows}
 use Rattle.report_text.specs.Form.{IsReport}
+use Rattle.report_read.proofs.LastRowLaws.{memory_fits}
 
 abbrev ArePlain : Rows → Type 0
 ArePlain rows = AllByRecursion IsPlainRow rows
@@ -36,9 +37,11 @@ image_plain image few =
       bytes_plain_at bytes (range_with_len 0 ((length bytes + 31) / 32)),
     )
 
-items_plain : (cores bytes : ℕ) (items : List Item) → cores ≤ 8 → AllByRecursion (IsItem cores bytes) items → ArePlain (map item_row items)
-items_plain cores bytes [] few are = tt
-items_plain cores bytes (item ∷ items) few are = (item_plain cores bytes item few are.0, items_plain cores bytes items few are.1)
+items_plain : (machine : MachineKind) (cores bytes : ℕ) (items : List Item) → cores ≤ 8 → bytes ≤ 2 ^ 32
+    → AllByRecursion (IsItem machine cores bytes) items → ArePlain (map item_row items)
+items_plain machine cores bytes [] few small are = tt
+items_plain machine cores bytes (item ∷ items) few small are =
+    (item_plain machine cores bytes item few small are.0, items_plain machine cores bytes items few small are.1)
 
 cores_plain : (budget most first : ℕ) (cores : List EndValue) → budget < 2 ^ 64 → first + length cores < 2 ^ 64
     → AllByRecursion (IsEnd budget most) cores → ArePlain (rows_of_cores first cores)
@@ -73,7 +76,7 @@ report_plain r i =
     let header = AllByRecursion-append IsPlainRow (header_rows r.setup) (image_rows r.image) (header_plain r.setup i.header)
     (image_plain r.image i.image_size) in
     let run = AllByRecursion-append IsPlainRow (header_rows r.setup ++ image_rows r.image) (map item_row r.items) header
-    (items_plain r.setup.cores (memory_bytes r.image) r.items few i.items) in
+    (items_plain r.setup.machine r.setup.cores (memory_bytes r.image) r.items few (memory_fits r.image i.image_size i.image).1 i.items) in
     let machine_rows = most_rows r.setup.machine in
     let within : 0 + length r.cores < 2 ^ 64 = omega (arith, i.cores, few) in
     let cores = cores_plain r.setup.budget machine_rows 0 r.cores (omega (arith, most)) within i.ends in

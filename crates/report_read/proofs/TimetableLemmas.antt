@@ -5,9 +5,7 @@ use Rattle.std.specs.Prelude.{codes}
 use Rattle.std.specs.List.{AllByRecursion, range_with_len}
 use Rattle.std.proofs.lemmas.List.{nil_from_length, length-map, map-append, take_more_set}
 use Rattle.kmp_base.specs.declared.setup.Setup.{Setup}
-use Rattle.access_log.specs.declared.Entry.{Entry}
 use Rattle.access_log.specs.declared.Item.{Item}
-use Rattle.access_log.specs.declared.Item.TheVariants.{Done}
 use Rattle.image_file.specs.Value.{ImageValue, memory_bytes}
 use Rattle.timetable.specs.declared.CoreEnd.{CoreEnd}
 use Rattle.timetable.specs.declared.rows.TimeRow.{TimeRow}
@@ -23,7 +21,7 @@ use Rattle.report_row_reader.specs.Reading.{NumberedRow, fixed_of}
 use Rattle.report_row_reader.proofs.TimedLaws.{TimetableFits, rows_in, rows_in-numbered, numbered-rows_in, timetable_to, timetable_from}
 use Rattle.report_row_reader.proofs.TimedLaws.{timetable_spelled}
 use Rattle.report_text.specs.Text.{rows_of_cores, rows_of_timetables}
-use Rattle.report_read.specs.Reading.{with_rows, with_timetables, timed, entries_at, ends_at, words_at, timetables_at, counts_at, outcome_at}
+use Rattle.report_read.specs.Reading.{with_rows, with_timetables, timed, items_at, ends_at, words_at, timetables_at, counts_at, outcome_at}
 
 -- an end without its timetable
 abbrev pub bare : EndValue → EndValue
@@ -180,10 +178,9 @@ timetables_other (core ∷ keys) ((it ∷ its) ∷ timetables) rest other = reco
 -- ---- all behind the image
 
 -- what is read of the rows behind an image, by what is read of each part
-pub outcome_is : (bytes low most count : ℕ) (rows rows1 rows2 rows3 rows4 rows5 rest : Rows) (accesses : List Entry) (items : List Item)
+pub outcome_is : (bytes low most count : ℕ) (rows rows1 rows2 rows3 rows4 rows5 rest : Rows) (items : List Item)
     (ends told : List EndValue) (words : List MemoryWord) (timetables : List (List NumberedRow)) (counts : List ℕ) (end : Unit {0})
-    (setup : Setup) (image : ImageValue) → entries_at setup.cores bytes rows ≡ Ok (accesses, rows1)
-    → items ≡ map (λ (entry : Entry). Done entry) accesses → ends_at setup.budget setup.cores rows1 ≡ Ok (ends, rows2)
+    (setup : Setup) (image : ImageValue) → items_at setup.machine setup.cores bytes rows ≡ Ok (items, rows1) → ends_at setup.budget setup.cores rows1 ≡ Ok (ends, rows2)
     → words_at bytes low rows2 ≡ Ok (words, rows3) → timetables_at most count rows3 ≡ Ok (timetables, rows4)
     → with_timetables ends timetables ≡ told → counts_at rows4 ≡ Ok (counts, rows5)
     → row_at (fixed_of (codes "end" ∷ [])) rows5 ≡ Ok (end, rest)
@@ -191,9 +188,9 @@ pub outcome_is : (bytes low most count : ℕ) (rows rows1 rows2 rows3 rows4 rows
     → outcome_at setup image rows
     ≡ Ok (record { setup = setup; image = image; items = items; cores = told; words = words; counts = counts }, rest)
 unfolding outcome_at
-outcome_is bytes low most count rows rows1 rows2 rows3 rows4 rows5 rest accesses items ends told words timetables counts end setup image e1
-    items_are e2 e3 e4 told_is e5 e6 bytes_is low_is most_is count_is =
-    let entries : entries_at setup.cores (memory_bytes image) rows ≡ Ok (accesses, rows1) = rw bytes_is at e1 in
+outcome_is bytes low most count rows rows1 rows2 rows3 rows4 rows5 rest items ends told words timetables counts end setup image e1
+    e2 e3 e4 told_is e5 e6 bytes_is low_is most_is count_is =
+    let done : items_at setup.machine setup.cores (memory_bytes image) rows ≡ Ok (items, rows1) = rw bytes_is at e1 in
     let memory : words_at (memory_bytes image) (4 * length image.code) rows2 ≡ Ok (words, rows3) = rw (bytes_is, low_is) at e3 in
     let times : timetables_at (most_rows setup.machine) setup.cores rows3 ≡ Ok (timetables, rows4) = rw (most_is, count_is) at e4 in
-    rw (entries, e2, memory, times, e5, e6, told_is, items_are) refl
+    rw (done, e2, memory, times, e5, e6, told_is) refl

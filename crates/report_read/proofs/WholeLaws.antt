@@ -1,5 +1,5 @@
 -- What is read is a report, what is a report is read, and what isn't read doesn't go on as one where reading is stuck.
-use Rattle.std.proofs.Common.{◌≡◌, ℕ, ◌^◌, ◌≤◌, List, [], ◌∷◌, ◌++◌, length, map, Option, None, Result, Ok, Err, refl, sym, ap, subst, ◌∙◌}
+use Rattle.std.proofs.Common.{◌≡◌, ℕ, List, [], ◌∷◌, ◌++◌, length, map, Option, None, Result, Ok, Err, refl, sym, ap, subst, ◌∙◌}
 use Rattle.std.proofs.Common.{append_assoc, arith, inl, inr}
 use Rattle.std.specs.Prelude.{codes}
 use Rattle.std.proofs.lemmas.List.{append-nil}
@@ -24,9 +24,9 @@ use Rattle.report_read.specs.Reading.{OpeningValue, opening_at, image_row_of, ou
 use Rattle.report_read.proofs.OpeningLaws.{full_of, full_rows, IsOpening, rows_of_opening, front_of, opening_of, opening_part, opening_fits}
 use Rattle.report_read.proofs.OpeningLaws.{opening_rows_are, all_rows, begins_opening}
 use Rattle.report_text.proofs.ImageLaws.{image_bytes_are}
-use Rattle.report_read.proofs.LastRowLaws.{some_bytes, memory_small, IsImageOf, last_row, image_law}
+use Rattle.report_read.proofs.LastRowLaws.{some_bytes, memory_fits, IsImageOf, last_row, image_law}
 use Rattle.report_read.proofs.PlainText.{report_plain}
-use Rattle.report_read.proofs.OutcomeLaws.{IsOutcome, IsOutcomeOf, end_row, rows_behind, outcome_part}
+use Rattle.report_read.proofs.OutcomeLaws.{IsMemory, IsOutcome, IsOutcomeOf, end_row, rows_behind, outcome_part}
 
 -- ---- the three parts of a report
 
@@ -100,10 +100,10 @@ made_of o image r opening good h =
       opening = same;
     }
 
-small_memory : (o : OpeningValue) (image : ImageValue) → IsOpening o → IsImageOf o image → memory_bytes image ≤ 2 ^ 32
-small_memory o image opening good =
+fitting_memory : (o : OpeningValue) (image : ImageValue) → IsOpening o → IsImageOf o image → IsMemory (memory_bytes image)
+fitting_memory o image opening good =
     let size : length (image_bytes image) ≡ o.size = ap (λ z. z.size) good.1 in
-    memory_small image (omega (arith, size, opening.few)) good.0
+    memory_fits image (omega (arith, size, opening.few)) good.0
 
 -- ---- the last row of the image
 
@@ -134,7 +134,7 @@ report_takes rows rest r e =
     let o = opening_part.takes rows b.0.1 z b.1 in
     let c = bind_ok (row_at (image_at z) b.0.1) (λ q. outcome_at z.setup q.0 q.1) (r, rest) b.2 in
     let l = row_takes (IsImageOf z) last_row (image_at z) (image_law z o.0) b.0.1 c.0.1 c.0.0 c.1 in
-    let t = (outcome_part z.setup c.0.0 o.0.header (small_memory z c.0.0 o.0 l.0)).takes c.0.1 rest r c.2 in
+    let t = (outcome_part z.setup c.0.0 o.0.header (fitting_memory z c.0.0 o.0 l.0)).takes c.0.1 rest r c.2 in
     let m = made_of z c.0.0 r o.0 l.0 t.0 in (
       m.is,
       o.1 ∙ ap (λ (x : Rows). rows_of_opening z ++ x) (l.1 ∙ ap (λ (x : Rows). last_row c.0.0 ∷ x) t.1)
@@ -153,7 +153,7 @@ report_again r rest i =
     ap (λ (x : Rows). opening_at x >>= after_opening) (parts_are r rest)
     ∙ ap (λ y. y >>= after_opening) (opening_part.again o (last_row r.image ∷ more) opening)
     ∙ ap (λ x. chosen x (last_row r.image) more >>= λ q. outcome_at o.setup q.0 q.1) ((image_law o opening).again r.image good)
-    ∙ (outcome_part r.setup r.image i.header (small_memory o r.image opening good)).again r rest ((refl, refl), outcome_in r i)
+    ∙ (outcome_part r.setup r.image i.header (fitting_memory o r.image opening good)).again r rest ((refl, refl), outcome_in r i)
 
 -- ---- where reading is stuck
 
@@ -299,7 +299,7 @@ report_halts rows stuck e =
                 let l = row_takes (IsImageOf z) last_row (image_at z) (image_law z o.0) opened.0.1 behind_it.0.1 behind_it.0.0 behind_it.1
                 in
                 stuck_behind rows stuck opened.0.1 behind_it.0.1 z behind_it.0.0 o.0 l.0 o.1 l.1
-                ((outcome_part z.setup behind_it.0.0 o.0.header (small_memory z behind_it.0.0 o.0 l.0)).stops behind_it.0.1 stuck
+                ((outcome_part z.setup behind_it.0.0 o.0.header (fitting_memory z behind_it.0.0 o.0 l.0)).stops behind_it.0.1 stuck
                 behind_it.2)
           ]
     ]

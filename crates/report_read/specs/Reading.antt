@@ -1,27 +1,26 @@
 -- What is read of the rows of a report, from the front: a value and the rows behind it, or the rows at which reading is
 -- stuck.
 use Rattle.std.specs.Prelude.{ℕ, zero, suc, ◌+◌, ◌-◌, ◌*◌, ◌/◌, ◌^◌, List, [], ◌∷◌, ◌++◌, length, map, codes, Option, Some, None, Result}
-use Rattle.std.specs.Prelude.{Ok, Err}
+use Rattle.std.specs.Prelude.{Ok, Err, if◌then◌else◌}
 use Rattle.std.specs.List.{range_with_len}
 use Rattle.kmp_base.specs.declared.setup.Setup.{Setup}
 use Rattle.kmp_base.specs.declared.setup.MachineKind.{MachineKind}
 use Rattle.kmp_base.specs.declared.setup.Policy.{Policy}
 use Rattle.kmp_base.specs.declared.setup.Turns.{Turns}
-use Rattle.access_log.specs.declared.Entry.{Entry}
-use Rattle.access_log.specs.declared.Item.TheVariants.{Done}
+use Rattle.access_log.specs.declared.Item.{Item}
 use Rattle.image_file.specs.Value.{ImageValue, memory_bytes}
 use Rattle.image_file.specs.Reading.{image_meaning}
 use Rattle.row_reader.specs.Rows.{Row, Rows, is_named}
 use Rattle.kmp_base.specs.Bind.{◌>>=◌}
-use Rattle.row_reader.specs.Reading.{row_at, many_at, each_at}
+use Rattle.row_reader.specs.Reading.{chosen, row_at, many_at, each_at}
 use Rattle.timetable.specs.declared.rows.TimeRow.{TimeRow}
 use Rattle.report_rows.specs.declared.MemoryWord.{MemoryWord}
 use Rattle.report_row_reader.specs.declared.read.EndRow.{EndRow}
 use Rattle.report_rows.specs.Ends.{EndValue}
 use Rattle.report_rows.specs.Names.{count_names}
-use Rattle.report_rows.specs.Bounds.{most_rows}
+use Rattle.report_rows.specs.Bounds.{most_ways, most_rows}
 use Rattle.report_row_reader.specs.Reading.{fixed_of, number_row_of, machine_row_of, sets_row_of, policy_row_of, turns_row_of}
-use Rattle.report_row_reader.specs.Reading.{bytes_row_of, entry_row_of, end_row_of, registers_row_of, memory_row_of, count_row_of}
+use Rattle.report_row_reader.specs.Reading.{bytes_row_of, is_item, item_row_of, end_row_of, registers_row_of, memory_row_of, count_row_of}
 use Rattle.report_row_reader.specs.Reading.{NumberedRow, numbered, after_row, is_timed, timed_row_of}
 use Rattle.report_text.specs.Report.{ReportValue}
 
@@ -32,7 +31,7 @@ unfoldable pub caches_at : MachineKind → ℕ → ℕ → Policy → Turns → 
 caches_at machine cores budget policy turns rows = do
   seed ← row_at (number_row_of (codes "seed") 0 (2 ^ 32 - 1)) rows
   sets ← row_at sets_row_of seed.1
-  ways ← row_at (number_row_of (codes "ways") 1 8) sets.1
+  ways ← row_at (number_row_of (codes "ways") 1 (most_ways machine)) sets.1
   Ok (
     record {
       machine = machine;
@@ -98,8 +97,15 @@ image_row_of size front row = with_last front (bytes_row_of (size - length front
 
 -- ---- what was done, and how it ended
 
-abbrev pub entries_at : ℕ → ℕ → Rows → Result (List Entry × Rows) Rows
-entries_at cores bytes rows = many_at (is_named (codes "A")) (λ low. entry_row_of cores bytes) (λ entry. 0) 0 rows
+-- the item in the first of some rows, and the rows behind it; none where that row isn't one of a history
+abbrev pub item_at : MachineKind → ℕ → ℕ → Rows → Result (Option (Item × Rows)) Rows
+item_at machine cores bytes [] = Ok None
+item_at machine cores bytes (row ∷ rows) =
+    if is_item row then (chosen (item_row_of machine cores bytes row) row rows >>= λ p. Ok (Some p)) else Ok None
+
+-- the items of a history
+abbrev pub items_at : MachineKind → ℕ → ℕ → Rows → Result (List Item × Rows) Rows
+items_at machine cores bytes rows = many_at is_item (λ low. item_row_of machine cores bytes) (λ item. 0) 0 rows
 
 -- the end of a core, by its row and its registers, without its timetable
 abbrev pub end_of_rows : EndRow → List ℕ → List ℕ → List ℕ → List ℕ → EndValue
@@ -157,8 +163,8 @@ counts_at rows = each_at (λ name. row_at (count_row_of name)) count_names rows
 -- all behind the image
 unfoldable pub outcome_at : Setup → ImageValue → Rows → Result (ReportValue × Rows) Rows
 outcome_at setup image rows = do
-  entries ← entries_at setup.cores (memory_bytes image) rows
-  ends ← ends_at setup.budget setup.cores entries.1
+  items ← items_at setup.machine setup.cores (memory_bytes image) rows
+  ends ← ends_at setup.budget setup.cores items.1
   words ← words_at (memory_bytes image) (4 * length image.code) ends.1
   timetables ← timetables_at (most_rows setup.machine) setup.cores words.1
   counts ← counts_at timetables.1
@@ -167,7 +173,7 @@ outcome_at setup image rows = do
     record {
       setup = setup;
       image = image;
-      items = map (λ (entry : Entry). Done entry) entries.0;
+      items = items.0;
       cores = with_timetables ends.0 timetables.0;
       words = words.0;
       counts = counts.0;

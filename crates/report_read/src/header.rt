@@ -5,8 +5,9 @@ ghost use Rattle.row_reader.specs.Gives.{Gives};
 ghost use Rattle.report_read.specs.Reading.{caches_at, header_at};
 
 use crate::rows::{first_row, fixed_at, number_at};
-use kmp_base::{MOST_BUDGET, MOST_CORES, MOST_WAYS, MachineKind, Policy, Setup, Turns};
+use kmp_base::{MOST_BUDGET, MOST_CORES, MachineKind, Policy, Setup, Turns};
 use report_row_reader::{machine_row, policy_row, sets_row, turns_row};
+use report_rows::most_ways;
 use row_reader::Stuck;
 
 /// The seed and the caches, and the setup with them.
@@ -25,7 +26,7 @@ fn caches<'a>(
 {
     let (seed, rest) = number_at(text, b"seed", 0, u32::MAX as u64)?;
     let (sets, rest) = first_row(rest, |row| sets_row(row))?;
-    let (ways, rest) = number_at(rest, b"ways", 1, MOST_WAYS as u64)?;
+    let (ways, rest) = number_at(rest, b"ways", 1, u64::from(most_ways(machine)))?;
     let setup = Setup {
         machine,
         cores,

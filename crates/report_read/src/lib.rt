@@ -2,6 +2,7 @@
 #![tactic(auto)]
 
 mod header;
+mod history;
 mod image;
 mod outcome;
 mod read;

@@ -1,52 +1,22 @@
 //! What was done and how it ended, from the rows behind the image.
 ghost use Rattle.std.specs.Prelude.{◌≡◌, ◌^◌, ◌<◌, ◌≤◌, ◌++◌, [], length, map, slice_index_or, IfOk};
-ghost use Rattle.std.specs.List.{AllByRecursion};
-ghost use Rattle.access_log.specs.declared.Item.TheVariants.{Done};
 ghost use Rattle.row_reader.specs.Rows.{rows_of};
 ghost use Rattle.row_reader.specs.Gives.{Gives};
 ghost use Rattle.report_rows.specs.Ends.{end_value};
 ghost use Rattle.report_row_reader.specs.Reading.{numbered};
-ghost use Rattle.report_read.specs.Reading.{entries_at, end_at, ends_at, words_at, timetable_at, timetables_at, timed, with_timetables, counts_at, outcome_at};
+ghost use Rattle.report_read.specs.Reading.{end_at, ends_at, words_at, timetable_at, timetables_at, timed, with_timetables, counts_at, outcome_at};
 
+use crate::history::history;
 use crate::rows::{first_row, registers_at};
-use access_log::{Entry, History, Item};
 use image_file::Image;
 use kmp_base::{Fault, Setup};
 use mips_isa::CoreState;
-use report_row_reader::{
-    count_row, end_row, entry_row, last_row, memory_row, timed_parts, timed_row,
-};
+use report_row_reader::{count_row, end_row, last_row, memory_row, timed_parts, timed_row};
 use report_rows::{Counts, MemoryWord, count_name, most_rows};
-use report_text::{NoMemory, Report};
+use report_text::Report;
 use row_reader::{Stuck, named_row};
 use std::alloc::Global;
 use timetable::{CoreEnd, Rows};
-
-/// The accesses that stand first in a text.
-#[tactic(auto, unfolding(report_row_reader::specs::Reading::entry_row_of))]
-fn entries<'a>(
-    alloc: Global,
-    text: &'a [u8],
-    cores: u32,
-    bytes: u32,
-) -> Result<(Vec<Entry>, &'a [u8]), Stuck<'a>>
-    requires some_cores { 0 < cores }
-    requires few_cores { cores ≤ 8 }
-    ensures found { Gives (λ x. (x.0.items, rows_of x.1.now)) result (entries_at cores bytes (rows_of text.now)) }
-    ensures cores { IfOk result (λ x. AllByRecursion (λ entry. entry.core < 8) x.0.items) }
-    ensures few { IfOk result (λ x. length x.0.items ≤ length text.now) }
-{
-    let mut entries = Vec::new(alloc);
-    let mut rest = text;
-    'rows: while let Some((parts, behind)) = named_row(rest, b"A") {
-        let Some(entry) = entry_row(parts, cores, bytes) else {
-            return Err(Fault::Cause(rest));
-        };
-        entries.push(entry)?;
-        rest = behind;
-    }
-    Ok((entries, rest))
-}
 
 /// The registers of a core, by eight of them in a row.
 fn registers(a: [u32; 8], b: [u32; 8], c: [u32; 8], d: [u32; 8]) -> [u32; 32]
@@ -194,19 +164,6 @@ fn counts(text: &[u8]) -> Result<(Counts, &[u8]), Stuck<'_>>
     Ok((Counts { values }, rest))
 }
 
-/// The list of these accesses, with exactly the room for them.
-fn history(alloc: Global, entries: &[Entry]) -> Result<History, NoMemory>
-    requires few { length entries.now < 2 ^ 32 }
-    requires cores { AllByRecursion (λ entry. entry.core < 8) entries.now }
-    ensures { IfOk result (λ history. history.items ≡ map (λ entry. Done entry) entries.now) }
-{
-    let mut history = History::new(alloc, entries.len() as u32)?;
-    for entry in entries {
-        history.push(Item::Done(*entry));
-    }
-    Ok(history)
-}
-
 /// What stands behind an image.
 #[tactic(auto, unfolding(report_row_reader::specs::Reading::fixed_of, crate::specs::Reading::outcome_at))]
 pub(crate) fn outcome<'a>(
@@ -221,9 +178,7 @@ pub(crate) fn outcome<'a>(
     ensures { Gives (λ x. (x.0, rows_of x.1.now)) result (outcome_at setup image (rows_of text.now)) }
 {
     let bytes = 8 * image.memory_lines;
-    let (entries, rest) = entries(alloc, text, setup.cores, bytes)?;
-    let history = history(alloc, &entries)?;
-    drop(entries);
+    let (history, rest) = history(alloc, text, setup.machine, setup.cores, bytes)?;
     let (ends, rest) = ends(alloc, rest, setup.budget, setup.cores)?;
     let (words, rest) = words(alloc, rest, bytes, 4 * image.code.len() as u32)?;
     let (cores, rest) = timetables(alloc, rest, ends, most_rows(setup.machine))?;

@@ -1,5 +1,7 @@
 -- The rows of a report are plain, so they can be told from its text.
-use Rattle.std.proofs.Common.{◌≡◌, ℕ, zero, suc, ◌+◌, ◌^◌, ◌<◌, ◌≤◌, true, length, List, [], ◌∷◌, ◌++◌, take, drop, map, refl, arith}
+use Rattle.std.proofs.Common.{◌≡◌, ℕ, zero, suc, ◌+◌, ◌*◌, ◌/◌, ◌^◌, ◌<◌, ◌≤◌, Bool, true, false, length, List, [], ◌∷◌, ◌++◌, take, drop}
+use Rattle.std.proofs.Common.{map, refl, arith}
+use Rattle.std.specs.Int.{w16, to_be_bytes}
 use Rattle.std.specs.Prelude.{codes, slice_index, slice_index_or, Option, None, Some, IfSome}
 use Rattle.std.specs.List.{AllByRecursion}
 use Rattle.kmp_base.specs.Text.{hex8}
@@ -14,6 +16,9 @@ use Rattle.mips_isa.specs.declared.Kind.{Kind}
 use Rattle.mips_isa.specs.declared.Kind.TheVariants as kinds
 use Rattle.mips_isa.specs.declared.Stop.TheVariants as stops
 use Rattle.access_log.specs.declared.Entry.{Entry}
+use Rattle.access_log.specs.declared.Letter.{Letter}
+use Rattle.access_log.specs.declared.Letter.TheVariants as letters
+use Rattle.access_log.specs.declared.Transaction.{Transaction}
 use Rattle.access_log.specs.declared.Item.{Item}
 use Rattle.access_log.specs.declared.Item.TheVariants.{Done, Bus}
 use Rattle.timetable.specs.declared.End.{End}
@@ -28,9 +33,11 @@ use Rattle.report_rows.specs.Ends.{EndValue}
 use Rattle.kmp_base.specs.Names.{machine_name, policy_name, turns_name}
 use Rattle.mips_isa.specs.Names.{kind_name}
 use Rattle.timetable.specs.Names.{end_name}
-use Rattle.report_rows.specs.Names.{count_names}
-use Rattle.report_rows.specs.Bounds.{IsTime, IsHeader, IsEntry, IsItem, AreTimes, IsEnd, IsCount}
-use Rattle.report_rows.specs.Rows.{text_row, number_row, bytes_row, entry_row, item_row, core_row, registers_row, memory_row, count_row_at}
+use Rattle.access_log.specs.Names.{letter_name}
+use Rattle.report_rows.specs.Names.{bit_name, count_names}
+use Rattle.report_rows.specs.Bounds.{IsTime, IsHeader, IsEntry, IsTransaction, IsItem, AreTimes, IsEnd, IsCount}
+use Rattle.report_rows.specs.Rows.{text_row, number_row, bytes_row, entry_row, transaction_row, item_row, core_row, registers_row, memory_row}
+use Rattle.report_rows.specs.Rows.{count_row_at}
 use Rattle.report_rows.specs.Rows.{timed_row, rows_of_each, timetable_rows}
 use Rattle.report_rows.specs.Rows.{header_rows, core_rows, access_count_rows, bus_count_rows, wait_count_rows}
 
@@ -57,6 +64,17 @@ kind_passes kinds.Fetch = refl
 kind_passes kinds.Lw = refl
 kind_passes kinds.Sw = refl
 kind_passes kinds.Cas = refl
+
+bit_passes : (bit : Bool) → passes (bit_name bit) ≡ true
+bit_passes true = refl
+bit_passes false = refl
+
+letter_passes : (letter : Letter) → passes (letter_name letter) ≡ true
+letter_passes letters.M = refl
+letter_passes letters.O = refl
+letter_passes letters.E = refl
+letter_passes letters.S = refl
+letter_passes letters.I = refl
 
 end_passes : (end : End) → passes (end_name end) ≡ true
 end_passes (ends.Stopped stops.OffCode) = refl
@@ -92,9 +110,39 @@ entry_plain cores bytes entry few is = (
   ),
 )
 
-pub item_plain : (cores bytes : ℕ) (item : Item) → cores ≤ 8 → IsItem cores bytes item → IsPlainRow (item_row item)
-item_plain cores bytes (Done entry) few is = entry_plain cores bytes entry few is
-item_plain cores bytes (Bus transaction) few is = absurd is
+number_below : (most : ℕ) (x : Option ℕ) → most ≤ 2 ^ 64 → IfSome x (λ n. n < most) → IsPlain (number_or_dash x)
+number_below most None small fits = number_or_dash_plain None tt
+number_below most (Some n) small fits = number_or_dash_plain (Some n) (omega (arith, fits))
+
+transaction_plain : (cores bytes : ℕ) (bus : Transaction) → cores ≤ 8 → bytes ≤ 2 ^ 32 → IsTransaction cores bytes bus
+    → IsPlainRow (transaction_row bus)
+transaction_plain cores bytes bus few small is = (
+  plain_by_test (codes "B") refl,
+  (
+    decimal_plain bus.master (omega (arith, is.master)),
+    (
+      decimal_plain bus.line (omega (arith, is.line)),
+      (
+        plain_by_test (bit_name bus.im) (bit_passes bus.im),
+        (
+          bytes_plain (to_be_bytes w16 bus.ch),
+          (
+            number_below (2 * cores) bus.di (omega arith) is.di,
+            (
+              number_below (bytes / 8) bus.victim (omega arith) is.victim,
+              (plain_by_test (letter_name bus.letter) (letter_passes bus.letter), tt),
+            ),
+          ),
+        ),
+      ),
+    ),
+  ),
+)
+
+pub item_plain : (machine : MachineKind) (cores bytes : ℕ) (item : Item) → cores ≤ 8 → bytes ≤ 2 ^ 32 → IsItem machine cores bytes item
+    → IsPlainRow (item_row item)
+item_plain machine cores bytes (Done entry) few small is = entry_plain cores bytes entry few is
+item_plain machine cores bytes (Bus transaction) few small is = transaction_plain cores bytes transaction few small is.1
 
 pub memory_plain : (word : MemoryWord) → IsPlainRow (memory_row word)
 memory_plain word = (plain_by_test (codes "W") refl, (hex8_plain word.addr, (hex8_plain word.value, tt)))

@@ -1,31 +1,40 @@
 -- What is read of a row is what the row spells.
 use Rattle.std.proofs.Common.{◌≡◌, ◌≢◌, ℕ, zero, suc, ◌-◌, ◌^◌, ◌<◌, ◌≤◌, List, [], ◌∷◌, length, map, decimal, Option, refl, sym, ap}
-use Rattle.std.proofs.Common.{◌∙◌, subst, arith}
-use Rattle.std.specs.Prelude.{codes, IfSome, Some}
+use Rattle.std.proofs.Common.{◌∙◌, subst, arith, Bool, true, false, cond, ◌*◌, ◌/◌}
+use Rattle.std.specs.Prelude.{codes, IfSome, Some, None}
 use Rattle.std.specs.List.{AllByRecursion}
+use Rattle.std.specs.Option.{option_map}
+use Rattle.std.proofs.lemmas.Option.{IfSome_then}
+use Rattle.std_laws.proofs.OptionLaws.{option_map_parts}
 use Rattle.kmp_base.specs.Text.{hex8}
-use Rattle.kmp_base.specs.Machines.{IsUncached}
 use Rattle.kmp_base.specs.Names.{machine_name, policy_name, turns_name}
 use Rattle.mips_isa.specs.declared.Kind.{Kind}
 use Rattle.mips_isa.specs.declared.Kind.TheVariants.{Fetch}
+use Rattle.kmp_base.specs.declared.setup.MachineKind.{MachineKind}
 use Rattle.access_log.specs.declared.Entry.{Entry}
+use Rattle.access_log.specs.declared.Letter.{Letter}
+use Rattle.access_log.specs.declared.Transaction.{Transaction}
+use Rattle.access_log.specs.declared.Item.{Item}
+use Rattle.access_log.specs.declared.Item.TheVariants.{Done, Bus}
 use Rattle.timetable.specs.declared.End.{End}
-use Rattle.row_reader.specs.Rows.{Row}
+use Rattle.row_reader.specs.Rows.{Row, is_named}
 use Rattle.row_reader.specs.Fields.{◌>>=◌, part_at, with_rest, field_at, ended}
 use Rattle.row_reader.specs.Numbers.{exactly, word_of, number_of}
 use Rattle.row_reader.proofs.PartLaws.{IsRow}
 use Rattle.row_reader.proofs.FieldLaws.{IsField, bind_some, some_is, field_some, then_field, last_field, row_as}
-use Rattle.row_reader.proofs.NumberLaws.{number_field, word_field, optional_field, exactly_field, bytes_field}
+use Rattle.row_reader.proofs.NumberLaws.{number_field, word_field, optional_field, exactly_field, bytes_field, optional_number_field}
 use Rattle.report_rows.specs.declared.MemoryWord.{MemoryWord}
-use Rattle.report_rows.specs.Bounds.{IsWord, IsByte, IsTime, IsAddress, IsEntry, IsMemoryWord, IsCount}
-use Rattle.report_rows.specs.Rows.{text_row, number_row, bytes_row, entry_row, core_row, memory_row, count_row}
+use Rattle.report_rows.specs.Bounds.{IsReadable, has_bus, IsWord, IsByte, IsTime, IsAddress, IsEntry, IsCache, IsLine, IsTransaction, IsItem}
+use Rattle.report_rows.specs.Bounds.{IsMemoryWord, IsCount}
+use Rattle.report_rows.specs.Rows.{text_row, number_row, bytes_row, entry_row, transaction_row, item_row, core_row, memory_row, count_row}
 use Rattle.report_row_reader.specs.declared.read.EndRow.{EndRow}
 use Rattle.report_row_reader.specs.Reading.{text_behind, behind_name, fixed_of, number_from, number_row_of, sets_row_of, machine_row_of}
 use Rattle.report_row_reader.specs.Reading.{policy_row_of, turns_row_of, bytes_row_of, entry_row_of, entry_access_of, entry_words_of}
+use Rattle.report_row_reader.specs.Reading.{transaction_row_of, transaction_caches_of, bus_row_of, item_row_of}
 use Rattle.report_row_reader.specs.Reading.{end_row_of}
 use Rattle.report_row_reader.specs.Reading.{end_numbers_of, words_of, registers_row_of, memory_row_of, count_row_of}
 use Rattle.report_row_reader.proofs.ValueLaws.{field_as, machine_field, policy_field, turns_field, kind_field, end_field, from_field}
-use Rattle.report_row_reader.proofs.ValueLaws.{sets_field}
+use Rattle.report_row_reader.proofs.ValueLaws.{sets_field, bit_field, letter_field, halfword_field}
 use Rattle.report_row_reader.proofs.ValueLaws.{address_field, address_from_field, some_word_field}
 
 -- ---- names
@@ -90,7 +99,7 @@ pub sets_law : IsRow (λ n. ((k : ℕ) × (n ≡ 2 ^ k)) × (n ≤ 256)) (number
 unfolding sets_row_of
 sets_law = behind_law _ _ _ (codes "sets") sets_field
 
-pub machine_law : IsRow IsUncached (λ machine. text_row (codes "machine") (machine_name machine)) machine_row_of
+pub machine_law : IsRow IsReadable (λ machine. text_row (codes "machine") (machine_name machine)) machine_row_of
 unfolding machine_row_of
 machine_law = behind_law _ _ _ (codes "machine") machine_field
 
@@ -153,6 +162,113 @@ entry_law cores bytes some few fits =
     })
     (λ z i. (tt, (omega (arith, i.core), (i.nth, (i.kind, (i.addr, (i.old, (i.new, tt))))))))
     (λ z. refl) (entry_fields cores bytes few fits)
+
+-- ---- a transaction
+
+-- a transaction is its fields
+make_transaction : ℕ → ℕ → Bool → ℕ → Option ℕ → Option ℕ → Letter → Transaction
+make_transaction master line im ch di victim letter =
+    record { master = master; line = line; im = im; ch = ch; di = di; victim = victim; letter = letter }
+
+make_transaction_is : (z : Transaction) → make_transaction z.master z.line z.im z.ch z.di z.victim z.letter ≡ z
+unfolding make_transaction
+make_transaction_is z = refl
+
+transaction_is : (z : Transaction) (master line : ℕ) (im : Bool) (ch : ℕ) (di victim : Option ℕ) (letter : Letter)
+    → z.master ≡ master → z.line ≡ line → z.im ≡ im → z.ch ≡ ch → z.di ≡ di → z.victim ≡ victim → z.letter ≡ letter
+    → make_transaction master line im ch di victim letter ≡ z
+transaction_is z master line im ch di victim letter a b c d e f g = let all = make_transaction_is z in cc
+
+abbrev UpTo : ℕ → ℕ → Type 0
+UpTo most n = n ≤ most
+
+abbrev TransactionFields : ℕ → ℕ → Transaction → Type 0
+TransactionFields cores bytes z =
+    Unit {0} × (UpTo (2 * cores - 1) z.master × (UpTo (bytes / 8 - 1) z.line × (Unit {0} × ((z.ch < 2 ^ 16)
+    × (IfSome z.di (UpTo (2 * cores - 1)) × (IfSome z.victim (UpTo (bytes / 8 - 1)) × (Unit {0} × Unit {0})))))))
+
+transaction_fields : (cores bytes : ℕ) → cores ≤ 8 → bytes ≤ 2 ^ 32
+    → IsRow (TransactionFields cores bytes) transaction_row (transaction_row_of cores bytes)
+unfolding transaction_row_of transaction_caches_of make_transaction
+transaction_fields cores bytes few fits =
+    let lines : bytes / 8 - 1 < 2 ^ 64 = omega (arith, fits) in
+    then_name _ _ _ (codes "B") (
+    then_field _ _ _ (λ z. z.master) _ _ _ _ (number_field (2 * cores - 1) (omega arith)) (λ master _.
+    then_field _ _ _ (λ z. z.line) _ _ _ _ (number_field (bytes / 8 - 1) lines) (λ line _.
+    then_field _ _ _ (λ z. z.im) _ _ _ _ bit_field (λ im _.
+    then_field _ _ _ (λ z. z.ch) _ _ _ _ halfword_field (λ ch _.
+    then_field _ _ _ (λ z. z.di) _ _ _ _ (optional_number_field (2 * cores - 1) (omega arith)) (λ di _.
+    then_field _ _ _ (λ z. z.victim) _ _ _ _ (optional_number_field (bytes / 8 - 1) lines) (λ victim _.
+    then_field _ _ _ (λ z. z.letter) _ _ _ _ letter_field (λ letter _.
+    last_field
+    (record { master = master; line = line; im = im; ch = ch; di = di; victim = victim; letter = letter }) _
+    (λ z k. transaction_is z master line im ch di victim letter k.1.1.1.1.1.1.0 k.1.1.1.1.1.0 k.1.1.1.1.0 k.1.1.1.0 k.1.1.0 k.1.0 k.0)
+    (refl, (refl, (refl, (refl, (refl, (refl, (refl, tt)))))))))))))))
+
+pub transaction_law : (cores bytes : ℕ) → 1 ≤ cores → cores ≤ 8 → 8 ≤ bytes → bytes ≤ 2 ^ 32
+    → IsRow (IsTransaction cores bytes) transaction_row (transaction_row_of cores bytes)
+transaction_law cores bytes some few a_line fits =
+    let to_cache : (n : ℕ) → UpTo (2 * cores - 1) n → IsCache cores n = λ n h. omega (arith, some, h) in
+    let from_cache : (n : ℕ) → IsCache cores n → UpTo (2 * cores - 1) n = λ n h. omega (arith, h) in
+    let to_line : (n : ℕ) → UpTo (bytes / 8 - 1) n → IsLine bytes n = λ n h. omega (arith, a_line, h) in
+    let from_line : (n : ℕ) → IsLine bytes n → UpTo (bytes / 8 - 1) n = λ n h. omega (arith, h) in
+    row_as (TransactionFields cores bytes) (IsTransaction cores bytes) transaction_row transaction_row (transaction_row_of cores bytes)
+    (λ z h. record {
+      master = to_cache z.master h.1.0;
+      line = to_line z.line h.1.1.0;
+      ch = h.1.1.1.1.0;
+      di = IfSome_then z.di h.1.1.1.1.1.0 to_cache;
+      victim = IfSome_then z.victim h.1.1.1.1.1.1.0 to_line;
+    })
+    (λ z i. (
+      tt,
+      (
+        from_cache z.master i.master,
+        (
+          from_line z.line i.line,
+          (tt, (i.ch, (IfSome_then z.di i.di from_cache, (IfSome_then z.victim i.victim from_line, (tt, tt))))),
+        ),
+      ),
+    ))
+    (λ z. refl) (transaction_fields cores bytes few fits)
+
+-- ---- an item of a history
+
+-- an item of a machine with these bounds, and the row of it
+abbrev IsItemAs : MachineKind → ℕ → ℕ → Row → Item → Type 0
+IsItemAs machine cores bytes row item = IsItem machine cores bytes item × (row ≡ item_row item)
+
+module _ (machine : MachineKind) (cores bytes : ℕ) (some : 1 ≤ cores) (few : cores ≤ 8) (a_line : 8 ≤ bytes) (fits : bytes ≤ 2 ^ 32) where
+  bus_found : (row : Row) (bus : Transaction) (b : Bool) → has_bus machine ≡ b → cond b (transaction_row_of cores bytes row) None ≡ Some bus
+      → IsItemAs machine cores bytes row (Bus bus)
+  bus_found row bus true is e =
+      let f = (transaction_law cores bytes some few a_line fits).found row bus e in
+      ((is, f.0), f.1)
+  bus_found row bus false is e = absurd cc
+
+  item_found : (row : Row) (item : Item) (is_bus : Bool)
+      → cond is_bus (option_map (λ bus. Bus bus) (bus_row_of machine cores bytes row))
+      (option_map (λ entry. Done entry) (entry_row_of cores bytes row))
+      ≡ Some item
+      → IsItemAs machine cores bytes row item
+  item_found row item true e =
+      let parts = option_map_parts (λ bus. Bus bus) (bus_row_of machine cores bytes row) item e in
+      subst (IsItemAs machine cores bytes row) parts.2 (bus_found row parts.0 (has_bus machine) refl parts.1)
+  item_found row item false e =
+      let parts = option_map_parts (λ entry. Done entry) (entry_row_of cores bytes row) item e in
+      let f = (entry_law cores bytes some few fits).found row parts.0 parts.1 in
+      subst (IsItemAs machine cores bytes row) parts.2 (f.0, f.1)
+
+  item_again : (item : Item) → IsItem machine cores bytes item → item_row_of machine cores bytes (item_row item) ≡ Some item
+  unfolding item_row_of
+  item_again (Done entry) is = ap (option_map (λ entry. Done entry)) ((entry_law cores bytes some few fits).again entry is)
+  item_again (Bus bus) is =
+      ap (λ b. option_map (λ bus. Bus bus) (cond b (transaction_row_of cores bytes (transaction_row bus)) None)) is.0
+      ∙ ap (option_map (λ bus. Bus bus)) ((transaction_law cores bytes some few a_line fits).again bus is.1)
+
+  pub item_law : IsRow (IsItem machine cores bytes) item_row (item_row_of machine cores bytes)
+  unfolding item_row_of
+  item_law = record { found = λ row item e. item_found row item (is_named (codes "B") row) e; again = item_again }
 
 -- ---- how a core ended
 

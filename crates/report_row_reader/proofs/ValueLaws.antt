@@ -4,12 +4,15 @@ use Rattle.std.proofs.Common.{cond, List, [], ◌∷◌, decimal, Option, Some, 
 use Rattle.std.specs.Prelude.{nat_le}
 use Rattle.std.specs.Int.{◌∣◌}
 use Rattle.std.specs.Str.{bytes_eq}
+use Rattle.std.specs.Option.{option_map}
+use Rattle.std.specs.Int.{w16, to_be_bytes, from_be_bytes}
 use Rattle.std.proofs.lemmas.Bool.{and_from, and_parts, leb-true, le-leb, eqb-true, eq-eqb, ltb-true, lt-ltb}
 use Rattle.std.proofs.lemmas.Slice.Eq.{bytes_eq-Decides}
 use Rattle.std.proofs.Math.Nat.{div-add-mod, mul-mod_left, mul-mod_right, mul_assoc, mul_left_comm, dvd-mul_right, eq-one_of_dvd-one}
 use Rattle.std.proofs.Math.Nat.{pow-succ'}
-use Rattle.std.proofs.lemmas.Nat.{pow-add, pow_below, pow_pos, mul-mod}
-use Rattle.kmp_base.specs.Text.{hex8}
+use Rattle.std.proofs.lemmas.Nat.{pow-add, pow_below, pow_pos, mul-mod, be_bytes_2, from_be_bytes-to_be_bytes_2}
+use Rattle.hex.specs.Hex.{encode_lower}
+use Rattle.kmp_base.specs.Text.{hex8, hex4}
 use Rattle.kmp_base.specs.declared.setup.Policy.{Policy}
 use Rattle.kmp_base.specs.declared.setup.Policy.TheVariants as policies
 use Rattle.kmp_base.specs.declared.setup.Turns.{Turns}
@@ -19,18 +22,21 @@ use Rattle.mips_isa.specs.declared.Kind.TheVariants as kinds
 use Rattle.mips_isa.specs.declared.Stop.TheVariants as stops
 use Rattle.timetable.specs.declared.End.{End}
 use Rattle.timetable.specs.declared.End.TheVariants as ends
-use Rattle.row_reader.specs.Numbers.{number_of, word_of}
+use Rattle.row_reader.specs.Numbers.{AreBytes, number_of, word_of, bytes_of}
 use Rattle.row_reader.proofs.FieldLaws.{IsField, some_is}
-use Rattle.row_reader.proofs.NumberLaws.{number_field, word_field, tested_field}
+use Rattle.row_reader.proofs.NumberLaws.{number_field, word_field, tested_field, each_byte, bytes_found, bytes_again}
 use Rattle.kmp_base.specs.Names.{named, with_names, machine_name, policy_name, turns_name, every_policy, every_turns}
-use Rattle.kmp_base.specs.Machines.{IsUncached}
 use Rattle.kmp_base.specs.declared.setup.MachineKind.{MachineKind}
 use Rattle.kmp_base.specs.declared.setup.MachineKind.TheVariants as machines
+use Rattle.access_log.specs.declared.Letter.{Letter}
+use Rattle.access_log.specs.declared.Letter.TheVariants as letters
+use Rattle.access_log.specs.Names.{letter_name}
 use Rattle.mips_isa.specs.Names.{kind_name}
 use Rattle.timetable.specs.Names.{end_name}
-use Rattle.report_rows.specs.Bounds.{IsWord, IsAddress}
-use Rattle.report_row_reader.specs.Reading.{every_uncached, every_access, every_end, machine_of, policy_of, turns_of, kind_of, end_of}
-use Rattle.report_row_reader.specs.Reading.{number_from, sets_of, is_address}
+use Rattle.report_rows.specs.Bounds.{IsReadable, IsWord, IsAddress}
+use Rattle.report_rows.specs.Names.{bit_name}
+use Rattle.report_row_reader.specs.Reading.{every_readable, every_access, every_end, machine_of, policy_of, turns_of, kind_of, end_of}
+use Rattle.report_row_reader.specs.Reading.{number_from, sets_of, is_address, every_bit, bit_of, every_letter, letter_of, halfword_of}
 use Rattle.report_row_reader.specs.Reading.{address_of, address_from, some_word_of}
 
 -- the same field in other words
@@ -55,27 +61,27 @@ named_found name [] text x e = absurd cc
 named_found name (value ∷ values) text x e =
     named_here name text value x (bytes_eq (name value) text) (named (with_names name values) text) refl (named_found name values text x) e
 
-machine_again : (machine : MachineKind) → IsUncached machine → machine_of (machine_name machine) ≡ Some machine
+machine_again : (machine : MachineKind) → IsReadable machine → machine_of (machine_name machine) ≡ Some machine
 unfolding machine_of
 machine_again machines.Plain fits = refl
 machine_again machines.Pipe fits = refl
 machine_again machines.Full (inl plain) = absurd cc
 machine_again machines.Full (inr pipe) = absurd cc
 
-is_uncached : (machine : MachineKind) → machine_of (machine_name machine) ≡ Some machine → IsUncached machine
+is_readable : (machine : MachineKind) → machine_of (machine_name machine) ≡ Some machine → IsReadable machine
 unfolding machine_of
-is_uncached machines.Plain e = inl refl
-is_uncached machines.Pipe e = inr refl
-is_uncached machines.Full e = absurd cc
+is_readable machines.Plain e = inl refl
+is_readable machines.Pipe e = inr refl
+is_readable machines.Full e = absurd cc
 
 machine_found : (text : List ℕ) (machine : MachineKind) → machine_of text ≡ Some machine
-    → IsUncached machine × (text ≡ machine_name machine)
+    → IsReadable machine × (text ≡ machine_name machine)
 unfolding machine_of
 machine_found text machine e =
-    let is = named_found machine_name every_uncached text machine e in
-    (is_uncached machine (ap machine_of (sym is) ∙ e), is)
+    let is = named_found machine_name every_readable text machine e in
+    (is_readable machine (ap machine_of (sym is) ∙ e), is)
 
-pub machine_field : IsField IsUncached machine_name machine_of
+pub machine_field : IsField IsReadable machine_name machine_of
 machine_field = record {
   found = machine_found;
   again = machine_again;
@@ -127,6 +133,33 @@ kind_field = record {
   again = kind_again;
 }
 
+bit_again : (bit : Bool) → bit_of (bit_name bit) ≡ Some bit
+unfolding bit_of
+bit_again true = refl
+bit_again false = refl
+
+pub bit_field : IsField (λ (bit : Bool). Unit {0}) bit_name bit_of
+unfolding bit_of
+bit_field = record {
+  found = λ text bit e. (tt, named_found bit_name every_bit text bit e);
+  again = λ bit fits. bit_again bit;
+}
+
+letter_again : (letter : Letter) → letter_of (letter_name letter) ≡ Some letter
+unfolding letter_of
+letter_again letters.M = refl
+letter_again letters.O = refl
+letter_again letters.E = refl
+letter_again letters.S = refl
+letter_again letters.I = refl
+
+pub letter_field : IsField (λ (letter : Letter). Unit {0}) letter_name letter_of
+unfolding letter_of
+letter_field = record {
+  found = λ text letter e. (tt, named_found letter_name every_letter text letter e);
+  again = λ letter fits. letter_again letter;
+}
+
 end_again : (end : End) → end_of (end_name end) ≡ Some end
 unfolding end_of
 end_again (ends.Stopped stops.OffCode) = refl
@@ -151,6 +184,44 @@ from_field least most small =
     field_as (λ n. (n ≤ most) × (nat_le least n ≡ true)) (λ n. (least ≤ n) × (n ≤ most)) decimal (number_from least most)
     (λ n h. (leb-true least n h.1, h.0)) (λ n h. (h.1, le-leb least n h.0))
     (tested_field (λ n. n ≤ most) decimal (number_of most) (λ n. nat_le least n) (number_field most small))
+
+-- ---- 16 bits
+
+abbrev IsHalfword : ℕ → Type 0
+IsHalfword n = n < 2 ^ 16
+
+halfword_is_two : (bytes : List ℕ) → AreBytes 2 bytes → IsHalfword (from_be_bytes w16 bytes)
+halfword_is_two bytes are =
+    let each = each_byte bytes are.1 in
+    let b0 = each 0 in
+    let b1 = each 1 in
+    omega (arith, b0, b1)
+
+halfword_found' : (text : List ℕ) (o : Option (List ℕ)) (n : ℕ) → bytes_of 2 text ≡ o → option_map (from_be_bytes w16) o ≡ Some n
+    → IsHalfword n × (text ≡ hex4 n)
+halfword_found' text (Some bytes) n is e =
+    let f = bytes_found 2 text bytes is in
+    let value = some_is (from_be_bytes w16 bytes) n e in (
+      subst IsHalfword value (halfword_is_two bytes f.0),
+      f.1 ∙ ap encode_lower (sym (be_bytes_2 bytes n f.0.0 (each_byte bytes f.0.1) (sym value))),
+    )
+halfword_found' text None n is e = absurd cc
+
+halfword_found : (text : List ℕ) (n : ℕ) → halfword_of text ≡ Some n → IsHalfword n × (text ≡ hex4 n)
+unfolding halfword_of
+halfword_found text n e = halfword_found' text (bytes_of 2 text) n refl e
+
+halfword_bytes : (n : ℕ) → AreBytes 2 (to_be_bytes w16 n)
+halfword_bytes n = (refl, (omega arith, (omega arith, tt)))
+
+halfword_again : (n : ℕ) → IsHalfword n → halfword_of (hex4 n) ≡ Some n
+unfolding halfword_of
+halfword_again n small =
+    ap (option_map (from_be_bytes w16)) (bytes_again 2 (to_be_bytes w16 n) (halfword_bytes n))
+    ∙ ap (λ x. Some x) (from_be_bytes-to_be_bytes_2 n small)
+
+pub halfword_field : IsField (λ n. n < 2 ^ 16) hex4 halfword_of
+halfword_field = record { found = halfword_found; again = halfword_again }
 
 -- ---- the divisors of a power of two are powers of two
 

@@ -1,9 +1,12 @@
 -- What is read of each row of a report, from its parts.
-use Rattle.std.specs.Prelude.{ℕ, zero, suc, ◌+◌, ◌-◌, ◌%◌, ◌^◌, ◌==◌, ◌&&◌, nat_lt, nat_le, if◌then◌else◌, Bool, false, List, [], ◌∷◌}
+use Rattle.std.specs.Prelude.{ℕ, zero, suc, ◌+◌, ◌-◌, ◌*◌, ◌/◌, ◌%◌, ◌^◌, ◌==◌, ◌&&◌, ◌||◌, nat_lt, nat_le, if◌then◌else◌, Bool, true, false}
+use Rattle.std.specs.Prelude.{List, [], ◌∷◌}
 use Rattle.std.specs.Prelude.{codes, decimal}
 use Rattle.std.specs.Prelude.{Option, Some, None}
 use Rattle.std.specs.Str.{bytes_eq}
-use Rattle.row_reader.specs.Rows.{Row}
+use Rattle.std.specs.Option.{option_map}
+use Rattle.std.specs.Int.{w16, from_be_bytes}
+use Rattle.row_reader.specs.Rows.{Row, is_named}
 use Rattle.row_reader.specs.Fields.{◌>>=◌, part_at, field_at, ended}
 use Rattle.row_reader.specs.Numbers.{number_of, optional_number_of, word_of, optional_word_of, bytes_of, exactly}
 use Rattle.kmp_base.specs.Names.{named, with_names, machine_name, policy_name, turns_name, every_policy, every_turns}
@@ -15,23 +18,31 @@ use Rattle.mips_isa.specs.declared.Kind.{Kind}
 use Rattle.mips_isa.specs.declared.Kind.TheVariants as kinds
 use Rattle.mips_isa.specs.declared.Stop.TheVariants as stops
 use Rattle.access_log.specs.declared.Entry.{Entry}
+use Rattle.access_log.specs.declared.Letter.{Letter}
+use Rattle.access_log.specs.declared.Letter.TheVariants as letters
+use Rattle.access_log.specs.declared.Transaction.{Transaction}
+use Rattle.access_log.specs.declared.Item.{Item}
+use Rattle.access_log.specs.declared.Item.TheVariants.{Done, Bus}
+use Rattle.access_log.specs.Names.{letter_name}
 use Rattle.timetable.specs.declared.End.{End}
 use Rattle.timetable.specs.declared.End.TheVariants as ends
 use Rattle.mips_isa.specs.Names.{kind_name}
 use Rattle.timetable.specs.Names.{end_name}
 use Rattle.timetable.specs.declared.rows.TimeRow.{TimeRow}
 use Rattle.report_rows.specs.declared.MemoryWord.{MemoryWord}
+use Rattle.report_rows.specs.Names.{bit_name}
+use Rattle.report_rows.specs.Bounds.{has_bus}
 use Rattle.report_row_reader.specs.declared.read.EndRow.{EndRow}
 
 -- ---- names
 
 -- the machines whose reports are read
-abbrev pub every_uncached : List MachineKind
-every_uncached = Plain ∷ Pipe ∷ []
+abbrev pub every_readable : List MachineKind
+every_readable = Plain ∷ Pipe ∷ []
 
 -- the one of this name
 unfoldable pub machine_of : List ℕ → Option MachineKind
-machine_of text = named (with_names machine_name every_uncached) text
+machine_of text = named (with_names machine_name every_readable) text
 
 -- the policy of this name
 unfoldable pub policy_of : List ℕ → Option Policy
@@ -140,6 +151,60 @@ entry_row_of cores bytes row = do
   core ← field_at (number_of (cores - 1)) title.1
   nth ← field_at (number_of 100002) core.1
   entry_access_of bytes core.0 nth.0 nth.1
+
+-- ---- transactions
+
+abbrev pub every_bit : List Bool
+every_bit = true ∷ false ∷ []
+
+-- the bit of this name
+unfoldable pub bit_of : List ℕ → Option Bool
+bit_of text = named (with_names bit_name every_bit) text
+
+abbrev pub every_letter : List Letter
+every_letter = letters.M ∷ letters.O ∷ letters.E ∷ letters.S ∷ letters.I ∷ []
+
+-- the letter of this name
+unfoldable pub letter_of : List ℕ → Option Letter
+letter_of text = named (with_names letter_name every_letter) text
+
+-- the 16 bits whose four lower-case hexadecimal digits the text is
+unfoldable pub halfword_of : List ℕ → Option ℕ
+halfword_of text = option_map (from_be_bytes w16) (bytes_of 2 text)
+
+-- the other caches, the victim and the letter of a transaction, behind its master, its line and its intent
+unfoldable pub transaction_caches_of : ℕ → ℕ → ℕ → ℕ → Bool → Row → Option Transaction
+transaction_caches_of cores bytes master line im row = do
+  ch ← field_at halfword_of row
+  di ← field_at (optional_number_of (2 * cores - 1)) ch.1
+  victim ← field_at (optional_number_of (bytes / 8 - 1)) di.1
+  letter ← field_at letter_of victim.1
+  ended (record { master = master; line = line; im = im; ch = ch.0; di = di.0; victim = victim.0; letter = letter.0 }) letter.1
+
+-- a transaction of one of the two caches of so many cores, with lines within so many bytes
+unfoldable pub transaction_row_of : ℕ → ℕ → Row → Option Transaction
+transaction_row_of cores bytes row = do
+  title ← field_at (exactly (codes "B")) row
+  master ← field_at (number_of (2 * cores - 1)) title.1
+  line ← field_at (number_of (bytes / 8 - 1)) master.1
+  im ← field_at bit_of line.1
+  transaction_caches_of cores bytes master.0 line.0 im.0 im.1
+
+-- ---- items of a history
+
+-- whether a row is one of the history
+abbrev pub is_item : Row → Bool
+is_item row = is_named (codes "A") row || is_named (codes "B") row
+
+-- a transaction, which only a machine with a bus makes
+abbrev pub bus_row_of : MachineKind → ℕ → ℕ → Row → Option Transaction
+bus_row_of machine cores bytes row = if has_bus machine then transaction_row_of cores bytes row else None
+
+-- an access, or a transaction
+unfoldable pub item_row_of : MachineKind → ℕ → ℕ → Row → Option Item
+item_row_of machine cores bytes row =
+    if is_named (codes "B") row then option_map (λ bus. Bus bus) (bus_row_of machine cores bytes row)
+    else option_map (λ entry. Done entry) (entry_row_of cores bytes row)
 
 -- ---- ends of cores
 

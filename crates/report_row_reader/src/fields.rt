@@ -3,13 +3,14 @@ ghost use Rattle.std.specs.Prelude.{◌≡◌, ◌≤◌, ◌<◌, ◌^◌, ◌*
 ghost use Rattle.std.specs.Option.{option_copied};
 ghost use Rattle.row_reader.specs.Fields.{Finds, parts_left, field_at};
 ghost use Rattle.row_reader.specs.Numbers.{number_of, optional_number_of, exactly};
-ghost use Rattle.report_row_reader.specs.Reading.{machine_of, policy_of, turns_of, kind_of, end_of, number_from, sets_of, address_of, address_from, some_word_of};
+ghost use Rattle.report_row_reader.specs.Reading.{machine_of, policy_of, turns_of, kind_of, bit_of, letter_of, halfword_of, end_of, number_from, sets_of, address_of, address_from, some_word_of};
 
+use access_log::Letter;
 use itoa::Buffer;
 use kmp_base::{MOST_SETS, MachineKind, Policy, Turns, named};
 use mips_isa::{Kind, Stop};
 use report_rows::MOST_TIME;
-use row_reader::{Parts, name, number_of, optional_number_of, word_of};
+use row_reader::{Parts, bytes_of, name, number_of, optional_number_of, word_of};
 use timetable::End;
 
 /// A machine whose reports are read.
@@ -45,6 +46,35 @@ pub(crate) fn kind_of(text: &[u8]) -> Option<Kind>
     named(&kinds.map(|kind| (kind.name(), kind)), text)
 }
 
+/// Whether a bit is set.
+#[tactic(auto, unfolding(crate::specs::Reading::bit_of))]
+pub(crate) fn bit_of(text: &[u8]) -> Option<bool>
+    ensures { result ≡ bit_of text.now }
+{
+    named(&[("1", true), ("0", false)], text)
+}
+
+#[tactic(auto, unfolding(crate::specs::Reading::letter_of))]
+pub(crate) fn letter_of(text: &[u8]) -> Option<Letter>
+    ensures { result ≡ letter_of text.now }
+{
+    let letters = [Letter::M, Letter::O, Letter::E, Letter::S, Letter::I];
+    named(&letters.map(|letter| (letter.name(), letter)), text)
+}
+
+/// The 16 bits that the text spells in four lower-case hexadecimal digits.
+#[tactic(auto, unfolding(crate::specs::Reading::halfword_of))]
+pub(crate) fn halfword_of(text: &[u8]) -> Option<u16>
+    ensures { result ≡ halfword_of text.now }
+{
+    let mut bytes = [0; 2];
+    if bytes_of(text, &mut bytes) {
+        Some(u16::from_be_bytes(bytes))
+    } else {
+        None
+    }
+}
+
 #[tactic(auto, unfolding(crate::specs::Reading::end_of))]
 pub(crate) fn end_of(text: &[u8]) -> Option<End>
     ensures { result ≡ end_of text.now }
@@ -68,14 +98,21 @@ pub(crate) fn time_of(text: &[u8]) -> Option<u32>
     Some(n as u32)
 }
 
+/// A number up to a most, or `-` for none.
+pub(crate) fn optional_short_of(text: &[u8], most: u32) -> Option<Option<u32>>
+    ensures { result ≡ optional_number_of most text.now }
+{
+    match optional_number_of(text, u64::from(most))? {
+        Some(n) => Some(Some(n as u32)),
+        None => Some(None),
+    }
+}
+
 /// A number of a cycle, or `-` for none.
 pub(crate) fn optional_time_of(text: &[u8]) -> Option<Option<u32>>
     ensures { result ≡ optional_number_of 100002 text.now }
 {
-    match optional_number_of(text, u64::from(MOST_TIME))? {
-        Some(n) => Some(Some(n as u32)),
-        None => Some(None),
-    }
+    optional_short_of(text, MOST_TIME)
 }
 
 #[tactic(auto, unfolding(crate::specs::Reading::number_from))]

@@ -10,6 +10,6 @@ mod fields;
 mod read;
 
 pub use read::{
-    EndRow, bytes_row, count_row, end_row, entry_row, fixed_row, last_row, machine_row, memory_row,
-    number_row, policy_row, registers_row, sets_row, timed_parts, timed_row, turns_row,
+    EndRow, bus_row, bytes_row, count_row, end_row, entry_row, fixed_row, last_row, machine_row,
+    memory_row, number_row, policy_row, registers_row, sets_row, timed_parts, timed_row, turns_row,
 };

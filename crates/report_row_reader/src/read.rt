@@ -3,16 +3,17 @@ ghost use Rattle.std.specs.Prelude.{◌≡◌, ◌+◌, ◌<◌, ◌≤◌, [], 
 ghost use Rattle.row_reader.specs.Rows.{rows_of, first_passes};
 ghost use Rattle.std.specs.Option.{option_copied};
 ghost use Rattle.row_reader.specs.Fields.{Finds, parts_of, parts_left};
-ghost use Rattle.report_row_reader.specs.Reading.{fixed_of, text_behind, number_row_of, machine_row_of, sets_row_of, policy_row_of, turns_row_of, bytes_row_of, entry_row_of, entry_access_of, entry_words_of, end_row_of, end_numbers_of, words_of, registers_row_of, memory_row_of, count_row_of, is_timed, last_stages_of, stages_of, numbered_row_of};
+ghost use Rattle.report_row_reader.specs.Reading.{fixed_of, text_behind, number_row_of, machine_row_of, sets_row_of, policy_row_of, turns_row_of, bytes_row_of, entry_row_of, entry_access_of, entry_words_of, transaction_row_of, transaction_caches_of, bus_row_of, end_row_of, end_numbers_of, words_of, registers_row_of, memory_row_of, count_row_of, is_timed, last_stages_of, stages_of, numbered_row_of};
 
 use crate::fields::{
-    address_from, address_of, end_of, kind_of, machine_of, number_from, number_name,
-    optional_time_of, policy_of, sets_of, some_word_of, time_of, turns_of,
+    address_from, address_of, bit_of, end_of, halfword_of, kind_of, letter_of, machine_of,
+    number_from, number_name, optional_short_of, optional_time_of, policy_of, sets_of,
+    some_word_of, time_of, turns_of,
 };
-use access_log::Entry;
+use access_log::{Entry, Transaction};
 use kmp_base::{MachineKind, Policy, Turns};
 use mips_isa::Kind;
-use report_rows::MemoryWord;
+use report_rows::{MemoryWord, has_bus};
 use row_reader::{
     Parts, bytes_of, ended, field, name, named_row, number, optional_word, part, word,
 };
@@ -148,6 +149,66 @@ pub fn entry_row(parts: Parts, cores: u32, bytes: u32) -> Option<Entry>
     let (core, rest) = number(parts, u64::from(cores - 1))?;
     let (nth, rest) = field(rest, time_of)?;
     entry_access(rest, bytes, core as u32, nth)
+}
+
+/// The other caches, the victim and the letter of a transaction, behind its master, its line and its intent.
+#[tactic(auto, unfolding(crate::specs::Reading::transaction_caches_of))]
+fn transaction_caches(
+    rest: Parts,
+    cores: u32,
+    bytes: u32,
+    master: u32,
+    line: u32,
+    im: bool,
+) -> Option<Transaction>
+    requires some { 0 < cores }
+    requires few { cores ≤ 8 }
+    requires a_line { 8 ≤ bytes }
+    ensures { result ≡ transaction_caches_of cores bytes master line im (parts_left (option_copied rest.entry)) }
+{
+    let (ch, rest) = field(rest, halfword_of)?;
+    let (di, rest) = field(rest, |text| optional_short_of(text, 2 * cores - 1))?;
+    let (victim, rest) = field(rest, |text| optional_short_of(text, bytes / 8 - 1))?;
+    let (letter, rest) = field(rest, letter_of)?;
+    let bus = Transaction {
+        master,
+        line,
+        im,
+        ch,
+        di,
+        victim,
+        letter,
+    };
+    ended(bus, rest)
+}
+
+/// A transaction of one of the two caches of so many cores, with lines within so many bytes, by what stands behind its row's
+/// name.
+#[tactic(auto, unfolding(row_reader::specs::Numbers::exactly, crate::specs::Reading::transaction_row_of))]
+fn transaction_row(parts: Parts, cores: u32, bytes: u32) -> Option<Transaction>
+    requires some { 0 < cores }
+    requires few { cores ≤ 8 }
+    requires a_line { 8 ≤ bytes }
+    ensures read { result ≡ transaction_row_of cores bytes (codes "B" ∷ parts_left (option_copied parts.entry)) }
+{
+    let (master, rest) = number(parts, u64::from(2 * cores - 1))?;
+    let (line, rest) = number(rest, u64::from(bytes / 8 - 1))?;
+    let (im, rest) = field(rest, bit_of)?;
+    transaction_caches(rest, cores, bytes, master as u32, line as u32, im)
+}
+
+/// The same on a machine; only one with a bus makes transactions.
+pub fn bus_row(parts: Parts, machine: MachineKind, cores: u32, bytes: u32) -> Option<Transaction>
+    requires some { 0 < cores }
+    requires few { cores ≤ 8 }
+    requires a_line { 8 ≤ bytes }
+    ensures read { result ≡ bus_row_of machine cores bytes (codes "B" ∷ parts_left (option_copied parts.entry)) }
+{
+    if has_bus(machine) {
+        transaction_row(parts, cores, bytes)
+    } else {
+        None
+    }
 }
 
 /// The cycles, the instructions and the counters of a core, behind how it ended.

@@ -1,13 +1,14 @@
 -- What the rows of a report may say.
-use Rattle.std.specs.Prelude.{◌≡◌, ◌≢◌, ℕ, ◌+◌, ◌%◌, ◌^◌, ◌<◌, ◌≤◌, List, [], ◌∷◌, length, IfSome}
+use Rattle.std.specs.Prelude.{◌≡◌, ◌≢◌, ℕ, ◌+◌, ◌*◌, ◌/◌, ◌%◌, ◌^◌, ◌<◌, ◌≤◌, Bool, true, false, List, [], ◌∷◌, length, IfSome}
 use Rattle.std.specs.List.{AllByRecursion}
 use Rattle.kmp_base.specs.declared.setup.Setup.{Setup}
 use Rattle.kmp_base.specs.declared.setup.MachineKind.{MachineKind}
-use Rattle.kmp_base.specs.declared.setup.MachineKind.TheVariants.{Plain}
+use Rattle.kmp_base.specs.declared.setup.MachineKind.TheVariants.{Plain, Full}
 use Rattle.kmp_base.specs.Limits.{IsWithinLimits}
 use Rattle.kmp_base.specs.Machines.{IsUncached}
 use Rattle.mips_isa.specs.declared.Kind.TheVariants.{Fetch}
 use Rattle.access_log.specs.declared.Entry.{Entry}
+use Rattle.access_log.specs.declared.Transaction.{Transaction}
 use Rattle.access_log.specs.declared.Item.{Item}
 use Rattle.access_log.specs.declared.Item.TheVariants.{Done, Bus}
 use Rattle.timetable.specs.declared.rows.TimeRow.{TimeRow}
@@ -25,10 +26,25 @@ IsByte n = n < 2 ^ 8
 abbrev pub IsTime : ℕ → Type 0
 IsTime n = n ≤ 100002
 
+-- The machines whose reports are read: those whose reports are judged.
+abbrev pub IsReadable : MachineKind → Type 0
+IsReadable machine = IsUncached machine
+
+-- Whether the machine has caches and a bus.
+abbrev pub has_bus : MachineKind → Bool
+has_bus Full = true
+has_bus machine = false
+
+-- The most ways of a set, by the machine: caches are direct-mapped. Where there are none, the number tells nothing.
+abbrev pub most_ways : MachineKind → ℕ
+most_ways Full = 1
+most_ways machine = 8
+
 -- The header: a machine whose reports are read, and numbers within their limits.
 pub record IsHeader (setup : Setup) : Type 0 where
-  pub machine : IsUncached setup.machine
+  pub machine : IsReadable setup.machine
   pub limits : IsWithinLimits setup
+  pub ways : setup.ways ≤ most_ways setup.machine
   pub seed : IsWord setup.seed
 
 -- An address of a word within so many bytes of memory.
@@ -45,10 +61,26 @@ pub record IsEntry (cores bytes : ℕ) (entry : Entry) : Type 0 where
   pub old : IsWord entry.old
   pub new : IfSome entry.new IsWord
 
--- Cores over flat memory make accesses, and no transaction.
-abbrev pub IsItem : ℕ → ℕ → Item → Type 0
-IsItem cores bytes (Done entry) = IsEntry cores bytes entry
-IsItem cores bytes (Bus transaction) = ⊥
+-- A cache of so many cores, each of which has two.
+abbrev pub IsCache : ℕ → ℕ → Type 0
+IsCache cores cache = cache < 2 * cores
+
+-- A line of eight bytes within so many bytes of memory.
+abbrev pub IsLine : ℕ → ℕ → Type 0
+IsLine bytes line = line < bytes / 8
+
+-- A transaction of one of the caches of so many cores.
+pub record IsTransaction (cores bytes : ℕ) (bus : Transaction) : Type 0 where
+  pub master : IsCache cores bus.master
+  pub line : IsLine bytes bus.line
+  pub ch : bus.ch < 2 ^ 16
+  pub di : IfSome bus.di (IsCache cores)
+  pub victim : IfSome bus.victim (IsLine bytes)
+
+-- Cores make accesses, and caches on a bus transactions.
+abbrev pub IsItem : MachineKind → ℕ → ℕ → Item → Type 0
+IsItem machine cores bytes (Done entry) = IsEntry cores bytes entry
+IsItem machine cores bytes (Bus transaction) = (has_bus machine ≡ true) × IsTransaction cores bytes transaction
 
 -- How many rows the timetable of a core may have, by the machine: an unpipelined core has none.
 abbrev pub most_rows : MachineKind → ℕ

@@ -11,7 +11,7 @@ pub record IsReport (report : ReportValue) : Type 0 where
   pub header : IsHeader report.setup
   pub image : image_meaning (image_bytes report.image) ≡ Ok report.image
   pub image_size : length (image_bytes report.image) < 2 ^ 32
-  pub items : AllByRecursion (IsItem report.setup.cores (memory_bytes report.image)) report.items
+  pub items : AllByRecursion (IsItem report.setup.machine report.setup.cores (memory_bytes report.image)) report.items
   pub cores : length report.cores ≡ report.setup.cores
   pub ends : AllByRecursion (IsEnd report.setup.budget (most_rows report.setup.machine)) report.cores
   pub words : AreMemoryWords (memory_bytes report.image) (4 * length report.image.code) report.words

@@ -3,3 +3,4 @@ pub mod Counts
 pub mod Text
 pub mod Form
 pub mod Right
+pub mod Worked

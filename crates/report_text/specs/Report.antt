@@ -6,6 +6,7 @@ use Rattle.access_log.specs.declared.Item.{Item}
 use Rattle.timetable.specs.Outcome.{OutcomeValue}
 use Rattle.report_rows.specs.declared.MemoryWord.{MemoryWord}
 use Rattle.report_rows.specs.Ends.{EndValue, end_value}
+use Rattle.right_run.specs.Right.{caches_of}
 use Rattle.report_text.specs.Counts.{counts_of}
 
 pub record ReportValue : Type 0 where
@@ -37,5 +38,5 @@ report_of setup image outcome =
       items = outcome.items;
       cores = cores;
       words = words_past (length image.code) outcome.words;
-      counts = counts_of cores outcome.items;
+      counts = counts_of (caches_of setup) cores outcome.items;
     }
