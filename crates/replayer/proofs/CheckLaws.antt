@@ -7,6 +7,7 @@ use Rattle.access_log.specs.declared.Item.{Item}
 use Rattle.access_log.specs.Items.{entries}
 use Rattle.access_log.specs.Replay.{FlatMachine, memory_bytes, entered_all}
 use Rattle.image_file.specs.Value.{start_memory, memory_bytes as image_memory}
+use Rattle.kmp_base.specs.declared.setup.MachineKind.TheVariants.{Plain}
 use Rattle.report_rows.specs.Bounds.{IsItem}
 use Rattle.report_text.specs.Report.{ReportValue}
 use Rattle.report_text.specs.Form.{IsReport}
@@ -19,6 +20,7 @@ use Rattle.replayer.proofs.OnlyLaws.{entry_difference_is_none}
 use Rattle.replayer.proofs.RightImage.{bytes_are}
 use Rattle.replayer.proofs.RightRegisters.{IsMachine, is_machine}
 use Rattle.replayer.proofs.RightLaws.{no_difference_is_right, right_has_no_difference}
+use Rattle.replayer.proofs.FlatLemmas.{flat_items}
 
 -- one with a difference isn't right
 pub different_is_wrong : (report : ReportValue) (difference : Difference) → IsReport report → IsDifference report difference
@@ -51,11 +53,12 @@ start_fits report = is_machine report.image (start_memory report.image) report.s
 
 pub items_within : (report : ReportValue) (items : List Item) (start : FlatMachine) → IsReport report → items ≡ report.items
     → start ≡ machine_of report
-    → AllByRecursion (IsItem (length start.cores) (memory_bytes start)) items
+    → AllByRecursion (IsItem Plain (length start.cores) (memory_bytes start)) items
 items_within report items start is items_are start_is =
     let fits = start_fits report in
     let bytes : memory_bytes (machine_of report) ≡ image_memory report.image = omega (arith, fits.words_are, bytes_are report is) in
-    rw (items_are, start_is, fits.cores_are, bytes) is.items
+    rw (items_are, start_is, fits.cores_are, bytes)
+    (flat_items report.setup.machine report.setup.cores (image_memory report.image) report.items is.header.machine is.items)
 
 -- what is told behind accesses that the machine makes
 

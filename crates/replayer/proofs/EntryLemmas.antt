@@ -1,5 +1,5 @@
 -- One access more, and the first that differs.
-use Rattle.std.proofs.Common.{◌≡◌, ℕ, suc, ◌+◌, ◌^◌, ◌<◌, ◌≤◌, List, [], ◌∷◌, ◌++◌, length, get_or, take, drop, Some, ap, ◌∙◌, arith}
+use Rattle.std.proofs.Common.{◌≡◌, ℕ, suc, ◌+◌, ◌^◌, ◌<◌, ◌≤◌, List, [], ◌∷◌, ◌++◌, length, get_or, take, drop, inl, refl, Some, ap, ◌∙◌, arith}
 use Rattle.std.specs.List.{AllByRecursion}
 use Rattle.std.specs.Option.{option_and_then}
 use Rattle.std.proofs.lemmas.List.{take_more, length-take, length-append}
@@ -15,8 +15,10 @@ use Rattle.access_log.proofs.ItemLaws.{entries-append}
 use Rattle.access_log.proofs.ReplayLaws.{entered_all-more}
 use Rattle.seq_machine.specs.declared.Differs.{Differs}
 use Rattle.seq_machine.specs.Differences.{DiffersFirst}
+use Rattle.kmp_base.specs.declared.setup.MachineKind.TheVariants.{Plain}
 use Rattle.report_rows.specs.Bounds.{IsItem}
 use Rattle.replayer.specs.Difference.{told_entry, EntryDiffers}
+use Rattle.replayer.proofs.FlatLemmas.{without_bus}
 
 -- the accesses up to an index, and the one there
 entries_more : (items : List Item) (i : ℕ) (d : Item) (entry : Entry) → i < length items → get_or items i d ≡ Done entry
@@ -73,8 +75,8 @@ lines_within items i first_line line below few line_is =
 
 -- a transaction isn't among them
 pub no_transaction : (cores bytes : ℕ) (items : List Item) (i : ℕ) (d : Item) (transaction : Transaction) → i < length items
-    → AllByRecursion (IsItem cores bytes) items
+    → AllByRecursion (IsItem Plain cores bytes) items
     → get_or items i d ≡ Bus transaction → ⊥
 no_transaction cores bytes items i d transaction below all is =
-    let item : IsItem cores bytes (get_or items i d) = All-from_recursion (IsItem cores bytes) items all i d below in
-    rw is at item
+    let item : IsItem Plain cores bytes (get_or items i d) = All-from_recursion (IsItem Plain cores bytes) items all i d below in
+    without_bus Plain (inl refl) (rw is at item).0

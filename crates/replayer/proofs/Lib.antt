@@ -3,6 +3,7 @@ pub mod CourseLemmas
 pub mod TimetableLemmas
 pub mod CoreLemmas
 pub mod CoresLemmas
+pub mod FlatLemmas
 pub mod EntryLemmas
 pub mod LineLemmas
 pub mod TablesLemmas

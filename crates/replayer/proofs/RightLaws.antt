@@ -8,6 +8,7 @@ use Rattle.std.proofs.lemmas.Option.{slice_get-map}
 use Rattle.std.proofs.lemmas.Simd.{map-map}
 use Rattle.std_laws.proofs.OptionLaws.{option_and_then_parts, option_map_parts}
 use Rattle.std_laws.proofs.ListLaws.{AllByRecursion-append, AllByRecursion-parts, AllByRecursion-slice_get}
+use Rattle.kmp_base.specs.declared.setup.Setup.{Setup}
 use Rattle.kmp_base.specs.declared.setup.MachineKind.{MachineKind}
 use Rattle.kmp_base.specs.declared.setup.MachineKind.TheVariants.{Plain, Pipe, Full}
 use Rattle.kmp_base.specs.Machines.{IsUncached}
@@ -21,7 +22,7 @@ use Rattle.access_log.specs.Items.{entries, transactions}
 use Rattle.access_log.specs.Replay.{FlatMachine, memory_bytes, entered_all, started, ended, own, replay}
 use Rattle.timetable.specs.declared.CoreEnd.{CoreEnd}
 use Rattle.timetable.specs.Outcome.{OutcomeValue, final_of}
-use Rattle.right_run.specs.Right.{EndsAt, FollowsOn, IsRight}
+use Rattle.right_run.specs.Right.{EndsAt, FollowsOn, IsRight, caches_of}
 use Rattle.report_rows.specs.declared.MemoryWord.{MemoryWord}
 use Rattle.report_rows.specs.Bounds.{IsItem, most_rows, IsEnd}
 use Rattle.report_rows.specs.Ends.{EndValue, end_value}
@@ -44,6 +45,7 @@ use Rattle.replayer.proofs.RightRuns.{all_executed}
 use Rattle.replayer.proofs.RightRows.{AreAsDue, AreRight, retired_of, cores_right, cores_agree, finals_are, due_at, all_due}
 use Rattle.replayer.proofs.RightRows.{tables_parts, tables_agree}
 use Rattle.replayer.proofs.RightImage.{bytes_are}
+use Rattle.replayer.proofs.FlatLemmas.{without_bus, flat_items}
 
 -- ---- what is judged behind the accesses
 
@@ -58,7 +60,7 @@ abbrev tables : ReportValue → List Judgment
 tables report = timetables_judged (timetables_line report) report.setup report.image (entries report.items) 0 report.cores
 
 abbrev counts : ReportValue → List Judgment
-counts report = counts_judged (counts_line report) report.counts (counts_of report.cores report.items)
+counts report = counts_judged (counts_line report) report.counts (counts_of (caches_of report.setup) report.cores report.items)
 
 -- ---- what no difference says
 
@@ -67,7 +69,7 @@ record AllAgree (report : ReportValue) (machine : FlatMachine) : Type 0 where
   pub cores_so : Agree (cores report machine)
   pub words_are : report.words ≡ words_past (length report.image.code) machine.memory
   pub tables_so : Agree (tables report)
-  pub counts_are : report.counts ≡ counts_of report.cores report.items
+  pub counts_are : report.counts ≡ counts_of (caches_of report.setup) report.cores report.items
 
 all_agree : (report : ReportValue) (machine : FlatMachine) → IsReport report → first_told (outcome_judged report machine) ≡ None
     → AllAgree report machine
@@ -81,8 +83,8 @@ all_agree report machine is none =
       cores_so = others.0;
       words_are = words_same (words_line report) report.words (words_past (length report.image.code) machine.memory) others.1;
       tables_so = timed.1;
-      counts_are = counts_same (counts_line report) report.counts (counts_of report.cores report.items) is.thirteen
-          (length-counts_of report.cores report.items) parts.1;
+      counts_are = counts_same (counts_line report) report.counts (counts_of (caches_of report.setup) report.cores report.items) is.thirteen
+          (length-counts_of (caches_of report.setup) report.cores report.items) parts.1;
     }
 
 -- ---- the report is right then
@@ -125,17 +127,17 @@ replay_is report machine made code_is right =
     ∙ ap (λ (cs : List Core). Some (machine_with machine.code cs machine.memory)) finals
     ∙ ap (λ (c : List ℕ). Some (machine_with c (map final_of (map core_end ends)) machine.memory)) code_is
 
-no_bus : (cores bytes : ℕ) (items : List Item) → AllByRecursion (IsItem cores bytes) items → transactions items ≡ []
+no_bus : (cores bytes : ℕ) (items : List Item) → AllByRecursion (IsItem Plain cores bytes) items → transactions items ≡ []
 no_bus cores bytes [] are = refl
 no_bus cores bytes (Done entry ∷ items) are = no_bus cores bytes items are.1
-no_bus cores bytes (Bus transaction ∷ items) are = absurd are.0
+no_bus cores bytes (Bus transaction ∷ items) are = absurd (without_bus Plain (inl refl) are.0.0)
 
-follows_on : (machine : MachineKind) (cores : ℕ) (image : ImageValue) (items : List Item) → IsUncached machine → transactions items ≡ []
-    → FollowsOn machine cores image items
-follows_on Plain cores image items uncached none = none
-follows_on Pipe cores image items uncached none = none
-follows_on Full cores image items (inl is) none = cc
-follows_on Full cores image items (inr is) none = cc
+follows_on : (machine : MachineKind) (setup : Setup) (image : ImageValue) (items : List Item) → IsUncached machine → transactions items ≡ []
+    → FollowsOn machine setup image items
+follows_on Plain setup image items uncached none = none
+follows_on Pipe setup image items uncached none = none
+follows_on Full setup image items (inl is) none = cc
+follows_on Full setup image items (inr is) none = cc
 
 -- each core ended rightly
 ends_are : (report : ReportValue) (machine : FlatMachine) → IsReport report → Replays report machine
@@ -175,11 +177,14 @@ same_report report machine all =
     let back : report.cores ≡ map end_value (map core_end report.cores) = sym (ends_back report.cores) in
     ap (λ (ws : List MemoryWord). with_outcome report.cores ws report.counts) all.words_are
     ∙ ap (λ (ns : List ℕ). with_outcome report.cores (words_past (length report.image.code) machine.memory) ns) all.counts_are
-    ∙ ap (λ (cs : List EndValue). with_outcome cs (words_past (length report.image.code) machine.memory) (counts_of cs report.items)) back
+    ∙ ap (λ (cs : List EndValue). with_outcome cs (words_past (length report.image.code) machine.memory) (counted cs)) back
   where
     with_outcome : List EndValue → List MemoryWord → List ℕ → ReportValue
     with_outcome cores words counts =
         record { setup = report.setup; image = report.image; items = report.items; cores = cores; words = words; counts = counts }
+
+    counted : List EndValue → List ℕ
+    counted cores = counts_of (caches_of report.setup) cores report.items
 
 pub no_difference_is_right : (report : ReportValue) → IsReport report → (machine : FlatMachine)
     → entered_all (entries report.items) (machine_of report) ≡ Some machine
@@ -195,8 +200,9 @@ no_difference_is_right report is machine made none =
       right = record {
         replays = run;
         ends = ends_are report machine is run right all.tables_so;
-        follows = follows_on report.setup.machine report.setup.cores report.image report.items is.header.machine
-            (no_bus report.setup.cores (images.memory_bytes report.image) report.items is.items);
+        follows = follows_on report.setup.machine report.setup report.image report.items is.header.machine
+            (no_bus report.setup.cores (images.memory_bytes report.image) report.items
+            (flat_items report.setup.machine report.setup.cores (images.memory_bytes report.image) report.items is.header.machine is.items));
       };
       is = same_report report machine all;
     }
@@ -207,7 +213,7 @@ record Tells (report : ReportValue) (outcome : OutcomeValue) : Type 0 where
   pub items : outcome.items ≡ report.items
   pub ends : map end_value outcome.cores ≡ report.cores
   pub words_are : report.words ≡ words_past (length report.image.code) outcome.words
-  pub counts_are : report.counts ≡ counts_of report.cores report.items
+  pub counts_are : report.counts ≡ counts_of (caches_of report.setup) report.cores report.items
 
 tells : (report : ReportValue) (outcome : OutcomeValue) → report ≡ report_of report.setup report.image outcome → Tells report outcome
 unfolding report_of
@@ -218,7 +224,8 @@ tells report outcome is =
       items = items;
       ends = ends;
       words_are = ap (λ (r : ReportValue). r.words) is;
-      counts_are = ap (λ (r : ReportValue). r.counts) is ∙ ap (λ cs. counts_of cs outcome.items) ends ∙ ap (counts_of report.cores) items;
+      counts_are = ap (λ (r : ReportValue). r.counts) is ∙ ap (λ cs. counts_of (caches_of report.setup) cs outcome.items) ends
+          ∙ ap (counts_of (caches_of report.setup) report.cores) items;
     }
 
 -- the machine of a replay, before its cores catch up and behind
@@ -261,7 +268,7 @@ ends_due report outcome is right few core ended here =
     (machine_with report.image.code (map final_of outcome.cores) outcome.words) (bytes_are report is)
     (length-map outcome.cores (λ (e : CoreEnd). e.retired) ∙ few) right.replays core ended.retired
     (slice_get-map (λ (e : CoreEnd). e.retired) outcome.cores core ∙ ap (option_map (λ (e : CoreEnd). e.retired)) here) in
-    end_as_due report.setup report.image outcome core report.setup.machine ended all (right.ends core ended here)
+    end_as_due report.setup report.image outcome core report.setup.machine ended is.header.machine all (right.ends core ended here)
 
 module _ (report : ReportValue) (outcome : OutcomeValue) (is : IsReport report) (right : IsRight report.setup report.image outcome)
     (told : Tells report outcome) where
@@ -309,7 +316,7 @@ module _ (report : ReportValue) (outcome : OutcomeValue) (is : IsReport report) 
       (map final_of outcome.cores) caught all_as_due)
       (subst (λ due. Agree (words_judged (words_line report) report.words due)) due_words (words_agree (words_line report) report.words)))
       all_tables)
-      (counts_agree (counts_line report) report.counts (counts_of report.cores report.items) told.counts_are))
+      (counts_agree (counts_line report) report.counts (counts_of (caches_of report.setup) report.cores report.items) told.counts_are))
 
 pub right_has_no_difference : (report : ReportValue) → IsReport report → IsRightReport report
     → (machine : FlatMachine) × (entered_all (entries report.items) (machine_of report) ≡ Some machine)

@@ -31,7 +31,7 @@ use Rattle.row_check.specs.Rows.{rows_judged}
 use Rattle.row_check.proofs.JudgmentLaws.{Agree}
 use Rattle.row_check.proofs.EndLaws.{spent-from, spent-to, stopped-from, stopped-to}
 use Rattle.replayer.specs.declared.ends.Timing.{Timing}
-use Rattle.replayer.specs.Cores.{plain_timing, stop_rows}
+use Rattle.replayer.specs.Cores.{plain_timing, stop_rows, done_by}
 use Rattle.replayer.specs.Timetables.{limit_of, timetable_judged}
 use Rattle.replayer.proofs.RightCores.{core_of}
 use Rattle.replayer.proofs.RightEnds.{EndsBy, IsAsDue, next_there}
@@ -67,10 +67,10 @@ none_judged line limit past (instr ∷ instrs) stop = tt
 -- ---- a core with five stages
 
 -- what its end is judged by, where its timetable is to have so many rows
-abbrev staged : List (Option Instr) → Option Instr → List TimeRow → ℕ → Timing
-staged instrs instr rows count = record {
+abbrev staged : End → List (Option Instr) → Option Instr → List TimeRow → ℕ → Timing
+staged kept instrs instr rows count = record {
   used = 0;
-  done = first_m (past_at_once [] instrs) instr;
+  done = done_by kept (first_m (past_at_once [] instrs) instr);
   stopped = option_map (λ (row : TimeRow). row.m) (last_where rows);
   rows = count;
 }
@@ -78,14 +78,14 @@ staged instrs instr rows count = record {
 -- what it ended by doesn't look at the number of rows
 by_rows : (budget cycles : ℕ) (kept : End) (instrs : List (Option Instr)) (instr : Option Instr) (next : Next) (rows : List TimeRow)
     (m n : ℕ)
-    → EndsBy kept budget cycles (staged instrs instr rows m) next → EndsBy kept budget cycles (staged instrs instr rows n) next
+    → EndsBy kept budget cycles (staged kept instrs instr rows m) next → EndsBy kept budget cycles (staged kept instrs instr rows n) next
 by_rows budget cycles (Stopped stop) instrs instr next rows m n by = by
 by_rows budget cycles Spent instrs instr next rows m n by = by
 
 staged_right : (line budget cycles : ℕ) (kept : End) (instrs : List (Option Instr)) (instr : Option Instr) (next : Next)
     (rows : List TimeRow)
     → cycles ≤ budget → length rows ≡ length instrs + stop_rows kept
-    → EndsBy kept budget cycles (staged instrs instr rows (length rows)) next
+    → EndsBy kept budget cycles (staged kept instrs instr rows (length rows)) next
     → Agree (rows_judged line (limit_of budget kept) [] instrs instr rows)
     → EndsInStages kept (Some 0) budget instrs instr next cycles rows
 staged_right line budget cycles (Stopped stop) instrs instr next rows within count by all =
@@ -97,7 +97,7 @@ staged_right line budget cycles Spent instrs instr next rows within count by all
 record StagedAgrees (line budget cycles : ℕ) (kept : End) (instrs : List (Option Instr)) (instr : Option Instr) (next : Next)
     (rows : List TimeRow) : Type 0 where
   pub count : length rows ≡ length instrs + stop_rows kept
-  pub by : EndsBy kept budget cycles (staged instrs instr rows (length rows)) next
+  pub by : EndsBy kept budget cycles (staged kept instrs instr rows (length rows)) next
   pub judged : Agree (rows_judged line (limit_of budget kept) [] instrs instr rows)
 
 staged_agrees : (line budget cycles : ℕ) (kept : End) (instrs : List (Option Instr)) (instr : Option Instr) (next : Next)
@@ -145,9 +145,9 @@ module _ (setup : Setup) (image : ImageValue) (outcome : OutcomeValue) (core : �
     pub due : IsAsDue machine setup image core accesses (end_value ended) (final_of ended)
     pub judged : (line : ℕ) → Agree (timetable_judged line setup image core accesses (end_value ended))
 
-  pub end_as_due : (machine : MachineKind) (ended : CoreEnd) → length (instrs ended.retired) ≡ ended.retired
+  pub end_as_due : (machine : MachineKind) (ended : CoreEnd) → IsUncached machine → length (instrs ended.retired) ≡ ended.retired
       → EndsOn machine setup image outcome core ended → EndAsDue machine ended
-  end_as_due Plain ended all right = record {
+  end_as_due Plain ended uncached all right = record {
     due = record {
       retired = refl;
       state = refl;
@@ -158,7 +158,7 @@ module _ (setup : Setup) (image : ImageValue) (outcome : OutcomeValue) (core : �
         (instr_on image.code ended.state.dpc) rows)) (sym right.1)
         (none_judged line (limit_of setup.budget ended.end) [] (instrs ended.retired) (instr_on image.code ended.state.dpc));
   }
-  end_as_due Pipe ended all right =
+  end_as_due Pipe ended uncached all right =
       let instr = instr_on image.code ended.state.dpc in
       let next = next_there image (final_of ended) in
       let agrees : (line : ℕ)
@@ -174,4 +174,5 @@ module _ (setup : Setup) (image : ImageValue) (outcome : OutcomeValue) (core : �
         };
         judged = λ line. (agrees line).judged;
       }
-  end_as_due Full ended all right = absurd right
+  end_as_due Full ended (inl is) all right = cc
+  end_as_due Full ended (inr is) all right = cc

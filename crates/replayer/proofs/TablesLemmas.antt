@@ -1,8 +1,10 @@
 -- The timetables of the cores, one after another.
-use Rattle.std.proofs.Common.{◌≡◌, ℕ, ◌+◌, ◌<◌, List, ◌++◌, length, get_or, drop, map, refl, sym, ap, ◌∙◌, arith}
+use Rattle.std.proofs.Common.{◌≡◌, ℕ, ◌+◌, ◌<◌, List, ◌++◌, length, get_or, drop, map, set, inl, inr, refl, sym, ap, ◌∙◌, arith}
 use Rattle.std.specs.Prelude.{Option, Some, None, slice_get}
 use Rattle.std.specs.Option.{option_map}
-use Rattle.std.proofs.lemmas.List.{length-map}
+use Rattle.std.proofs.lemmas.Bool.{cases_eq}
+use Rattle.std.proofs.lemmas.List.{length-map, get_or-set_same, get_or-set_other}
+use Rattle.std.proofs.lemmas.Option.{same_Some}
 use Rattle.std.proofs.lemmas.Option.{slice_get-map, slice_get_read}
 use Rattle.std.proofs.lemmas.List.Sums.{sum_by-cons}
 use Rattle.std_laws.proofs.ListLaws.{drop-slice_get}
@@ -17,7 +19,9 @@ use Rattle.report_rows.specs.Ends.{EndValue, end_value}
 use Rattle.report_text.specs.Report.{ReportValue}
 use Rattle.row_check.specs.declared.difference.Difference.{Difference}
 use Rattle.row_check.specs.Judgments.{Judgment, first_told}
-use Rattle.replayer.specs.Timetables.{timetable_judged, timetables_judged}
+use Rattle.row_check.specs.declared.clocks.Clocks.{Clocks}
+use Rattle.right_run.specs.Stages.{executed_by}
+use Rattle.replayer.specs.Timetables.{AreKnown, EachKnown, timetable_judged, timetables_judged}
 use Rattle.replayer.proofs.JudgeLemmas.{first_before, first_behind}
 use Rattle.replayer.proofs.LineLemmas.{timed_count}
 
@@ -36,6 +40,19 @@ pub told_here : (line core : ℕ) (told : Option Difference) (given report : Rep
     → told ≡ first_told (timetable_judged line given.setup given.image core (own (entries items) core) kept)
     → told ≡ first_told (timetable_judged line report.setup report.image core (own (entries report.items) core) kept)
 told_here line core told given report items kept is items_are told_is = rw (items_are, is) at told_is
+
+-- what is known of its clocks, in other words
+pub known_here : (core : ℕ) (clocks : Option Clocks) (given report : ReportValue) (items : List Item) (retired : ℕ)
+    → given ≡ report → items ≡ given.items
+    → AreKnown clocks (executed_by given.image core given.setup.cores (own (entries items) core) retired)
+    → AreKnown clocks (executed_by report.image core report.setup.cores (own (entries report.items) core) retired)
+known_here core clocks given report items retired is items_are known = rw (items_are, is) at known
+
+pub known_there : (core : ℕ) (clocks : Option Clocks) (given report : ReportValue) (items : List Item) (retired : ℕ)
+    → given ≡ report → items ≡ given.items
+    → AreKnown clocks (executed_by report.image core report.setup.cores (own (entries report.items) core) retired)
+    → AreKnown clocks (executed_by given.image core given.setup.cores (own (entries items) core) retired)
+known_there core clocks given report items retired is items_are known = rw (items_are, is) known
 
 module _ (setup : Setup) (image : ImageValue) (order : List Entry) (first_line : ℕ) (ends : List EndValue) where
   -- The timetables of the cores below an index don't differ.
@@ -72,3 +89,20 @@ module _ (setup : Setup) (image : ImageValue) (order : List Entry) (first_line :
       lines = omega (arith, so_far.lines, count_is);
       judged = sym (first_behind here behind (sym told)) ∙ at;
     }
+
+-- ---- the clocks that are known
+
+-- those of one core more
+pub more_known : (report : ReportValue) (clocks : List (Option Clocks)) (core : ℕ) (kept : EndValue) (new : Option Clocks)
+    → EachKnown report clocks → core < length clocks → slice_get report.cores core ≡ Some kept
+    → AreKnown new (executed_by report.image core report.setup.cores (own (entries report.items) core) kept.retired)
+    → EachKnown report (set clocks core new)
+more_known report clocks core kept new known below there is j other at = elim (cases_eq j core)
+    as (λ _. AreKnown (get_or (set clocks core new) j None)
+    (executed_by report.image j report.setup.cores (own (entries report.items) j) other.retired)) [
+      | inl same ↦
+          (let here : slice_get report.cores core ≡ Some other = rw same at at in
+          let kept_is : kept ≡ other = same_Some kept other (sym there ∙ here) in
+          rw (same, get_or-set_same clocks core new None below, ← kept_is) is)
+      | inr differs ↦ rw (get_or-set_other clocks core j new None differs) (known j other at)
+    ]

@@ -1,5 +1,5 @@
 -- A row more of a timetable: behind it nothing differed so far, and the clocks are known.
-use Rattle.std.proofs.Common.{◌≡◌, ℕ, ◌+◌, ◌*◌, ◌<◌, ◌≤◌, List, [], ◌∷◌, ◌++◌, length, get_or, drop, refl, sym, ap, ◌∙◌, arith}
+use Rattle.std.proofs.Common.{◌≡◌, ℕ, ◌+◌, ◌*◌, ◌<◌, ◌≤◌, List, [], ◌∷◌, ◌++◌, length, get_or, drop, refl, sym, ap, ◌∙◌, subst, arith}
 use Rattle.std.specs.Prelude.{Option, Some, None}
 use Rattle.std.specs.List.{AllByRecursion}
 use Rattle.std.proofs.lemmas.List.{at_drop_more, drop_all}
@@ -14,6 +14,9 @@ use Rattle.row_check.specs.declared.difference.Difference.{Difference}
 use Rattle.row_check.specs.Clocks.{AreOf, AreWithin, IsRowWithin}
 use Rattle.row_check.specs.Judgments.{Judgment, first_told}
 use Rattle.row_check.specs.Rows.{row_judged, stop_judged, rows_judged}
+use Rattle.row_check.proofs.JudgmentLaws.{agree}
+use Rattle.row_check.proofs.EndLaws.{row-at_once}
+use Rattle.replayer.specs.Timetables.{AreKnown}
 use Rattle.replayer.proofs.JudgeLemmas.{first_before, first_behind}
 
 -- Bounds that are greater hold too.
@@ -103,6 +106,7 @@ module _ (first_line : ℕ) (limit : Option ℕ) (stop : Option Instr) (all : Li
     pub past : List Timed
     pub of : AreOf clocks past
     pub same : first_told (rows_judged line limit past left stop (drop index rows)) ≡ first_told due
+    pub at_once : past_at_once past left ≡ past_at_once [] all
 
   module _ (line : ℕ) (clocks : Clocks) (left : List (Option Instr)) (index : ℕ) (d : TimeRow) (so_far : RowsSoFar line clocks left index)
     where
@@ -136,14 +140,23 @@ module _ (first_line : ℕ) (limit : Option ℕ) (stop : Option Instr) (all : Li
       pub row_agrees : (instr : Option Instr) (rest : List (Option Instr)) (new : Clocks) → index < length rows → left ≡ instr ∷ rest
           → Told None (λ past. row_judged line limit past instr (get_or rows index d)) → GoesOn clocks instr (get_or rows index d) new
           → IsRowWithin 1000000 (get_or rows index d) → RowsSoFar (line + 1) new rest (index + 1)
-      row_agrees instr rest new below is told goes few = record {
-        line_is = omega (arith, so_far.line_is);
-        within = goes.1 1000000 so_far.within few;
-        past = timed instr (get_or rows index d) ∷ so_far.past;
-        of = goes.0 so_far.past so_far.of;
-        same = sym (first_behind (row_judged line limit so_far.past instr (get_or rows index d)) (behind instr rest)
-            (sym (told so_far.past so_far.of))) ∙ at_instr instr rest below is;
-      }
+      row_agrees instr rest new below is told goes few =
+          let past_is = row-at_once line limit so_far.past instr (get_or rows index d)
+          (agree (row_judged line limit so_far.past instr (get_or rows index d)) (sym (told so_far.past so_far.of))) in
+          record {
+            line_is = omega (arith, so_far.line_is);
+            within = goes.1 1000000 so_far.within few;
+            past = timed instr (get_or rows index d) ∷ so_far.past;
+            of = goes.0 so_far.past so_far.of;
+            same = sym (first_behind (row_judged line limit so_far.past instr (get_or rows index d)) (behind instr rest)
+                (sym (told so_far.past so_far.of))) ∙ at_instr instr rest below is;
+            at_once = ap (λ past. past_at_once past rest) past_is
+                ∙ (ap (past_at_once so_far.past) (sym is) ∙ so_far.at_once);
+          }
+
+      -- where no instruction is left, the clocks are those behind all of them
+      pub all_known : left ≡ [] → AreKnown (Some clocks) all
+      all_known none = (subst (AreOf clocks) (ap (past_at_once so_far.past) (sym none) ∙ so_far.at_once) so_far.of, so_far.within)
 
       pub stop_told : (told : Option Difference) → index < length rows → left ≡ []
           → Told told (λ past. stop_judged line past stop (get_or rows index d)) → told ≡ first_told due

@@ -51,11 +51,16 @@ abbrev pub stop_rows : End → ℕ
 stop_rows (Stopped stop) = 1
 stop_rows Spent = 0
 
+-- The cycle in which what comes next is done, by the end that is kept: a core that stopped has nothing to come.
+abbrev pub done_by : End → ℕ → ℕ
+done_by (Stopped stop) at_once = 0
+done_by Spent at_once = at_once
+
 -- A core with five stages that executed these instructions, and comes to this one next, has its cycles in its timetable.
 abbrev pub staged_timing : EndValue → ℕ → List (Option Instr) → Option Instr → Timing
 staged_timing kept executed instrs instr = record {
   used = 0;
-  done = first_m (past_at_once [] instrs) instr;
+  done = done_by kept.end (first_m (past_at_once [] instrs) instr);
   stopped = option_map (λ (row : TimeRow). row.m) (last_where kept.rows);
   rows = executed + stop_rows kept.end;
 }

@@ -4,6 +4,7 @@ use Rattle.image_file.specs.Value.{start_memory, start_states}
 use Rattle.access_log.specs.Items.{entries}
 use Rattle.access_log.specs.Replay.{FlatMachine, started}
 use Rattle.report_rows.specs.Rows.{header_rows, memory_row}
+use Rattle.right_run.specs.Right.{caches_of}
 use Rattle.report_text.specs.Counts.{counts_of}
 use Rattle.report_text.specs.Report.{ReportValue, words_past}
 use Rattle.report_text.specs.Text.{image_rows, run_rows, rows_of_cores, rows_of_timetables}
@@ -40,4 +41,4 @@ outcome_judged report machine =
     cores_judged (cores_line report) report.setup report.image machine (entries report.items) 0 report.cores machine.cores
     ++ words_judged (words_line report) report.words (words_past (length report.image.code) machine.memory)
     ++ timetables_judged (timetables_line report) report.setup report.image (entries report.items) 0 report.cores
-    ++ counts_judged (counts_line report) report.counts (counts_of report.cores report.items)
+    ++ counts_judged (counts_line report) report.counts (counts_of (caches_of report.setup) report.cores report.items)

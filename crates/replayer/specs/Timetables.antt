@@ -1,14 +1,20 @@
 -- What is due in the timetables of cores.
-use Rattle.std.specs.Prelude.{ℕ, ◌+◌, Option, Some, None, List, [], ◌∷◌, ◌++◌, length}
+use Rattle.std.specs.Prelude.{◌≡◌, ℕ, ◌+◌, Option, Some, None, IfSome, List, [], ◌∷◌, ◌++◌, length, slice_get, get_or}
 use Rattle.kmp_base.specs.declared.setup.Setup.{Setup}
 use Rattle.image_file.specs.Value.{ImageValue}
 use Rattle.access_log.specs.declared.Entry.{Entry}
 use Rattle.access_log.specs.Replay.{own}
 use Rattle.timetable.specs.declared.End.{End}
 use Rattle.timetable.specs.declared.End.TheVariants.{Stopped, Spent}
+use Rattle.mips_isa.specs.declared.Instr.{Instr}
+use Rattle.access_log.specs.Items.{entries}
+use Rattle.timetable.specs.AtOnce.{past_at_once}
 use Rattle.timetable.specs.Trace.{instr_on}
 use Rattle.right_run.specs.Stages.{executed_by}
 use Rattle.report_rows.specs.Ends.{EndValue}
+use Rattle.report_text.specs.Report.{ReportValue}
+use Rattle.row_check.specs.declared.clocks.Clocks.{Clocks}
+use Rattle.row_check.specs.Clocks.{AreOf, AreWithin}
 use Rattle.row_check.specs.Judgments.{Judgment}
 use Rattle.row_check.specs.Rows.{rows_judged}
 
@@ -16,6 +22,16 @@ use Rattle.row_check.specs.Rows.{rows_judged}
 abbrev pub limit_of : ℕ → End → Option ℕ
 limit_of budget (Stopped stop) = None
 limit_of budget Spent = Some budget
+
+-- Clocks that are known to be those behind some instructions whose words and answers came at once.
+abbrev pub AreKnown : Option Clocks → List (Option Instr) → Type 0
+AreKnown clocks instrs = IfSome clocks (λ known. AreOf known (past_at_once [] instrs) × AreWithin 1000000 known)
+
+-- So far as they are, they are those behind the instructions of each core.
+abbrev pub EachKnown : ReportValue → List (Option Clocks) → Type 0
+EachKnown report clocks = (core : ℕ) (kept : EndValue) → slice_get report.cores core ≡ Some kept
+    → AreKnown (get_or clocks core None)
+    (executed_by report.image core report.setup.cores (own (entries report.items) core) kept.retired)
 
 -- The timetable of the core with a number that made these accesses.
 abbrev pub timetable_judged : ℕ → Setup → ImageValue → ℕ → List Entry → EndValue → List Judgment

@@ -9,6 +9,8 @@ ghost use Rattle.report_rows.specs.Ends.{EndValue, end_value};
 ghost use Rattle.report_text.specs.Form.{IsReport};
 ghost use Rattle.row_check.specs.Judgments.{first_told};
 ghost use Rattle.replayer.specs.Lists.{registers_judged};
+ghost use Rattle.right_run.specs.Stages.{executed_by};
+ghost use Rattle.replayer.specs.Timetables.{AreKnown, EachKnown};
 ghost use Rattle.replayer.specs.Cores.{end_judged, core_judged, cores_judged, core_to};
 
 use crate::Difference;
@@ -18,6 +20,7 @@ use image_file::Image;
 use kmp_base::Setup;
 use mips_isa::{CoreState, Next, steps};
 use report_text::Report;
+use row_check::Clocks;
 use row_check::difference::{number, word};
 use seq_machine::Machine;
 use timetable::CoreEnd;
@@ -75,11 +78,13 @@ fn core_there_difference(
     items: &[Item],
     core: u32,
     kept: &CoreEnd,
+    clocks: &Option<Clocks>,
     there: &Core,
 ) -> Option<Difference>
     requires line { line < 2 ^ 32 - 5 }
     requires items { length items.now < 2 ^ 31 }
     requires kept { kept.now.retired ≤ 100002 }
+    requires known { AreKnown clocks.now (executed_by image.now core setup.now.cores (own (entries items.now) core) kept.now.retired) }
     ensures { result ≡ first_told (core_judged line setup.now image.now core (own (entries items.now) core) (end_value kept.now) there.now) }
 {
     if kept.retired != there.executed {
@@ -88,7 +93,7 @@ fn core_there_difference(
         return Some(number(line, Field::Retired, retired, executed));
     }
     let next = next_in(image, &there.state);
-    let timing = timing_on(setup, image, items, core, kept, there, &next);
+    let timing = timing_on(setup, image, items, core, kept, clocks, there, &next);
     rows_difference(line, setup.budget, kept, &timing, there, &next)
 }
 
@@ -96,6 +101,7 @@ fn core_there_difference(
 fn core_difference(
     machine: &mut Machine,
     report: &Report,
+    clocks: &[Option<Clocks>; 8],
     core: u32,
     line: u32,
 ) -> Option<Difference>
@@ -104,6 +110,7 @@ fn core_difference(
     requires form { IsReport report.now }
     requires items { length report.now.items < 2 ^ 31 }
     requires line { line < 2 ^ 32 - 5 }
+    requires known { EachKnown report.now clocks.now }
     ensures first { (kept : EndValue) → (before : Core) → slice_get report.now.cores core ≡ Some kept → slice_get machine.old.cores core ≡ Some before
         → result ≡ first_told (core_judged line report.now.setup report.now.image core (own (entries report.now.items) core) kept (core_to machine.old kept.retired before)) }
     ensures moved { (after : Core) × (machine.new ≡ with_core machine.old core after) }
@@ -122,18 +129,21 @@ fn core_difference(
         items,
         core,
         kept,
+        &clocks[core as usize],
         &there,
     )
 }
 
 /// The first field that differs in the rows of the cores. The machine has made the accesses; its cores catch up to their
-/// ends one after another, up to the one that differs.
+/// ends one after another, up to the one that differs. The clocks behind the instructions of a core may be known.
 pub(crate) fn cores_difference(
     machine: &mut Machine,
     report: &Report,
+    clocks: &[Option<Clocks>; 8],
     first_line: u32,
 ) -> Option<Difference>
     requires form { IsReport report.now }
+    requires known { EachKnown report.now clocks.now }
     requires cores { length machine.old.cores ≡ length report.now.cores }
     requires items { length report.now.items < 2 ^ 31 }
     requires line { first_line + 5 * length report.now.cores < 2 ^ 32 }
@@ -142,7 +152,7 @@ pub(crate) fn cores_difference(
 {
     let mut line = first_line;
     for core in 0..report.setup.cores {
-        if let Some(difference) = core_difference(machine, report, core, line) {
+        if let Some(difference) = core_difference(machine, report, clocks, core, line) {
             return Some(difference);
         }
         line += 5;

@@ -7,16 +7,18 @@ ghost use Rattle.timetable.specs.AtOnce.{first_m, past_at_once};
 ghost use Rattle.report_rows.specs.Ends.{end_value};
 ghost use Rattle.report_text.specs.Counts.{at_entry};
 ghost use Rattle.row_check.specs.Judgments.{first_told};
+ghost use Rattle.replayer.specs.Timetables.{AreKnown};
 ghost use Rattle.replayer.specs.Cores.{plain_timing, stop_rows, timing_on, due_end, may_be_spent, due_cycles, end_judged};
 
 use crate::Difference;
 use crate::course::{Course, instr_on};
-use crate::timetables::done_at_once;
+use crate::timetables::done_behind;
 use access_log::{Core, Field, Item};
 use image_file::Image;
 use kmp_base::{MachineKind, Setup};
 use mips_isa::Next;
 use right_run::plain_cycles;
+use row_check::Clocks;
 use row_check::difference::{end, number, optional, refused, word};
 use timetable::{CoreEnd, End};
 
@@ -77,28 +79,36 @@ fn stop_rows(end: End) -> u32
     }
 }
 
-/// By the machine: of the core with a number that stands there.
+/// By the machine: of the core with a number that stands there, where the clocks behind its instructions may be known.
 pub(crate) fn timing_on(
     setup: &Setup,
     image: &Image,
     items: &[Item],
     core: u32,
     kept: &CoreEnd,
+    clocks: &Option<Clocks>,
     there: &Core,
     next: &Next,
 ) -> Timing
     requires items { length items.now < 2 ^ 31 }
+    requires known { AreKnown clocks.now (executed_by image.now core setup.now.cores (own (entries items.now) core) there.now.executed) }
     requires executed { there.now.executed ≤ 100002 }
     ensures { result ≡ timing_on setup.now.machine image.now core setup.now.cores (own (entries items.now) core) (end_value kept.now) there.now next.now }
 {
     match setup.machine {
         MachineKind::Plain => plain_timing(there.executed + accesses(items, core), next),
         MachineKind::Pipe | MachineKind::Full => {
-            let mut course = Course::new(image, items, core, setup.cores, there.executed);
-            let instr = instr_on(image, there.state.dpc);
+            let done = match kept.end {
+                End::Stopped(_) => 0,
+                End::Spent => {
+                    let mut course = Course::new(image, items, core, setup.cores, there.executed);
+                    let instr = instr_on(image, there.state.dpc);
+                    done_behind(clocks, &mut course, instr)
+                }
+            };
             Timing {
                 used: 0,
-                done: done_at_once(&mut course, instr),
+                done,
                 stopped: kept.rows.last().map(|row| row.m),
                 rows: there.executed + stop_rows(kept.end),
             }

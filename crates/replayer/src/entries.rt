@@ -4,6 +4,7 @@ ghost use Rattle.std.specs.List.{AllByRecursion};
 ghost use Rattle.access_log.specs.Items.{entries};
 ghost use Rattle.access_log.specs.Replay.{entered_all, memory_bytes};
 ghost use Rattle.seq_machine.specs.Differences.{found_new};
+ghost use Rattle.kmp_base.specs.declared.setup.MachineKind.TheVariants.{Plain};
 ghost use Rattle.report_rows.specs.Bounds.{IsItem};
 ghost use Rattle.replayer.specs.Difference.{kept_in, told_entry, EntryDiffers};
 
@@ -45,14 +46,15 @@ fn told_entry(line: u32, differs: &Differs) -> Difference
     }
 }
 
-/// Makes the accesses in their order, up to the first that differs from the one that the machine makes.
+/// Makes the accesses in their order, up to the first that differs from the one that the machine makes. There is no bus, so the
+/// items are accesses.
 #[tactic(auto, unfolding(access_log::specs::Replay::entered_all))]
 pub(crate) fn entries_difference(
     machine: &mut Machine,
     items: &[Item],
     first_line: u32,
 ) -> Option<Difference>
-    requires within { AllByRecursion (IsItem (length machine.old.cores) (memory_bytes machine.old)) items.now }
+    requires within { AllByRecursion (IsItem Plain (length machine.old.cores) (memory_bytes machine.old)) items.now }
     requires lines { first_line + length items.now < 2 ^ 32 }
     ensures none { IfNone result (entered_all (entries items.now) machine.old ≡ Some machine.new) }
     ensures some { IfSome result (λ difference. EntryDiffers first_line (entries items.now) machine.old difference) }

@@ -9,7 +9,7 @@ use crate::Difference;
 use crate::cores::cores_difference;
 use crate::counts::counts_difference;
 use crate::lines::{cores_line, counts_line, timetables_line, words_line};
-use crate::timetables::timetables_difference;
+use crate::timetables::judge_timetables;
 use crate::words::words_difference;
 use report_build::counts_of;
 use report_text::Report;
@@ -23,14 +23,20 @@ pub(crate) fn outcome_difference(machine: &mut Machine, report: &Report) -> Opti
     requires words { length machine.old.memory ≡ 2 * report.now.image.memory_lines }
     ensures { result ≡ first_told (outcome_judged report.now machine.old) }
 {
-    if let Some(difference) = cores_difference(machine, report, cores_line(report)) {
+    let tables = judge_timetables(report, timetables_line(report));
+    if let Some(difference) = cores_difference(
+        machine,
+        report,
+        &tables.clocks,
+        cores_line(report),
+    ) {
         return Some(difference);
     }
     let line = words_line(report);
     if let Some(difference) = words_difference(machine, &report.image, &report.words, line) {
         return Some(difference);
     }
-    if let Some(difference) = timetables_difference(report, timetables_line(report)) {
+    if let Some(difference) = tables.told {
         return Some(difference);
     }
     let due = counts_of(&report.cores, report.history.items());

@@ -11,7 +11,8 @@ ghost use Rattle.report_text.specs.Form.{IsReport};
 ghost use Rattle.row_check.specs.Judgments.{first_told};
 ghost use Rattle.row_check.specs.Clocks.{AreOf, AreWithin};
 ghost use Rattle.row_check.specs.Rows.{rows_judged};
-ghost use Rattle.replayer.specs.Timetables.{limit_of, timetable_judged, timetables_judged};
+ghost use Rattle.right_run.specs.Stages.{executed_by};
+ghost use Rattle.replayer.specs.Timetables.{limit_of, AreKnown, EachKnown, timetable_judged, timetables_judged};
 
 use crate::course::{Course, instr_on};
 use access_log::Item;
@@ -36,41 +37,70 @@ fn clocks_at_once(course: &mut Course<'_>) -> Clocks
     clocks
 }
 
-/// The cycle in which an instruction behind those of a core is done, where nothing is waited for.
-pub(crate) fn done_at_once(course: &mut Course<'_>, instr: Option<Instr>) -> u32
+/// The cycle in which an instruction behind those of a core is done, where nothing is waited for. The core is walked where the
+/// clocks aren't known.
+pub(crate) fn done_behind(
+    clocks: &Option<Clocks>,
+    course: &mut Course<'_>,
+    instr: Option<Instr>,
+) -> u32
     requires few { length course.old ≤ 100002 }
     requires proper { IsProperWhere instr }
+    requires known { AreKnown clocks.now course.old }
     ensures value { result ≡ first_m (past_at_once [] course.old) instr }
 {
-    clocks_at_once(course).row_at_once(instr).m
+    match clocks {
+        Some(clocks) => clocks.row_at_once(instr).m,
+        None => clocks_at_once(course).row_at_once(instr).m,
+    }
 }
 
-/// The first field that differs in rows from a line on: those of the instructions of a core, and that of its stop.
-fn rows_difference(
+/// What the rows of a timetable tell.
+#[derive(Clone, Copy)]
+pub(crate) struct Judged {
+    /// The first field that differs.
+    pub told: Option<Difference>,
+    /// The clocks behind the instructions of the core, where these are all that have a row, and none differs.
+    pub clocks: Option<Clocks>,
+}
+
+/// Judges rows from a line on: those of the instructions of a core, and that of its stop.
+fn judge_rows(
     first_line: u32,
     limit: Option<u32>,
     course: &mut Course<'_>,
     stop: Option<Instr>,
     rows: &[TimeRow],
-) -> Option<Difference>
+) -> Judged
     requires lines { first_line + length rows.now < 2 ^ 32 }
     requires proper { IsProperWhere stop }
     requires times { AllByRecursion AreTimes rows.now }
-    ensures { result ≡ first_told (rows_judged first_line limit [] course.old stop rows.now) }
+    ensures told { result.told ≡ first_told (rows_judged first_line limit [] course.old stop rows.now) }
+    ensures clocks { AreKnown result.clocks course.old }
 {
     let mut clocks = Clocks::new();
     let mut line = first_line;
     for row in rows {
         let Some(instr) = course.next_instr() else {
-            return stop_difference(line, &clocks, stop, row);
+            return Judged {
+                told: stop_difference(line, &clocks, stop, row),
+                clocks: None,
+            };
         };
         if let Some(difference) = row_difference(line, &clocks, limit, instr, row) {
-            return Some(difference);
+            return Judged {
+                told: Some(difference),
+                clocks: None,
+            };
         }
         clocks.push(instr, row);
         line += 1;
     }
-    None
+    let clocks = match course.next_instr() {
+        None => Some(clocks),
+        Some(_) => None,
+    };
+    Judged { told: None, clocks }
 }
 
 /// The last cycle in which an instruction of a core may be done.
@@ -83,46 +113,56 @@ fn limit_of(budget: u32, end: End) -> Option<u32>
     }
 }
 
-/// The first field that differs in the timetable of a core.
-fn timetable_difference(
+/// Judges the timetable of a core.
+fn judge_timetable(
     line: u32,
     setup: &Setup,
     image: &Image,
     items: &[Item],
     core: u32,
     kept: &CoreEnd,
-) -> Option<Difference>
+) -> Judged
     requires lines { line + length kept.now.rows.rows < 2 ^ 32 }
     requires times { AllByRecursion AreTimes kept.now.rows.rows }
-    ensures { result ≡ first_told (timetable_judged line setup.now image.now core (own (entries items.now) core) (end_value kept.now)) }
+    ensures told { result.told ≡ first_told (timetable_judged line setup.now image.now core (own (entries items.now) core) (end_value kept.now)) }
+    ensures clocks { AreKnown result.clocks (executed_by image.now core setup.now.cores (own (entries items.now) core) kept.now.retired) }
 {
     let mut course = Course::new(image, items, core, setup.cores, kept.retired);
     let stop = instr_on(image, kept.state.dpc);
     let limit = limit_of(setup.budget, kept.end);
-    rows_difference(line, limit, &mut course, stop, kept.rows.as_slice())
+    judge_rows(line, limit, &mut course, stop, kept.rows.as_slice())
 }
 
-/// The first field that differs in the timetables of the cores, from a line on.
-pub(crate) fn timetables_difference(report: &Report, first_line: u32) -> Option<Difference>
+/// What the timetables of the cores tell, at most eight.
+#[derive(Clone, Copy)]
+pub(crate) struct Tables {
+    /// The first field that differs.
+    pub told: Option<Difference>,
+    /// The clocks of each core, where they are known.
+    pub clocks: [Option<Clocks>; 8],
+}
+
+/// Judges the timetables of the cores, from a line on, up to the first that differs.
+pub(crate) fn judge_timetables(report: &Report, first_line: u32) -> Tables
     requires form { IsReport report.now }
     requires lines { first_line + sum_by (λ ended. length ended.rows) report.now.cores < 2 ^ 32 }
-    ensures { result ≡ first_told (timetables_judged first_line report.now.setup report.now.image (entries report.now.items) 0 report.now.cores) }
+    ensures told { result.told ≡ first_told (timetables_judged first_line report.now.setup report.now.image (entries report.now.items) 0 report.now.cores) }
+    ensures clocks { EachKnown report.now result.clocks }
 {
+    let mut clocks = [None; 8];
     let mut line = first_line;
     for core in 0..report.setup.cores {
         let kept = &report.cores[core as usize];
         let items = report.history.items();
-        if let Some(difference) = timetable_difference(
-            line,
-            &report.setup,
-            &report.image,
-            items,
-            core,
-            kept,
-        ) {
-            return Some(difference);
+        let judged = judge_timetable(line, &report.setup, &report.image, items, core, kept);
+        if let Some(difference) = judged.told {
+            return Tables {
+                told: Some(difference),
+                clocks,
+            };
         }
+        clocks[core as usize] = judged.clocks;
         line += kept.rows.len();
     }
-    None
+    Tables { told: None, clocks }
 }

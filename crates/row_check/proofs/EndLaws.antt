@@ -6,14 +6,14 @@ use Rattle.std_laws.proofs.ListLaws.{slice_get_at}
 use Rattle.mips_isa.specs.declared.Instr.{Instr}
 use Rattle.timetable.specs.declared.rows.TimeRow.{TimeRow}
 use Rattle.timetable.specs.Recurrence.{last_where}
-use Rattle.timetable.specs.Tables.{Timed}
+use Rattle.timetable.specs.Tables.{Timed, timed, past_of}
 use Rattle.timetable.specs.AtOnce.{first_m, past_at_once}
 use Rattle.timetable.specs.Ends.{EndsInStop, EndsSpent}
 use Rattle.timetable.proofs.FirstClockLaws.{past-first}
 use Rattle.timetable.proofs.WithinLaws.{all-within, last-within}
-use Rattle.row_check.specs.Rows.{rows_judged}
+use Rattle.row_check.specs.Rows.{row_judged, rows_judged}
 use Rattle.row_check.proofs.JudgmentLaws.{Agree}
-use Rattle.row_check.proofs.RowLemmas.{spent-is, spent-agrees, stopped-is, stopped-agrees}
+use Rattle.row_check.proofs.RowLemmas.{row-is, spent-is, spent-agrees, stopped-is, stopped-agrees}
 
 module _ (line : ℕ) (instrs : List (Option Instr)) (stop : Option Instr) (rows : List TimeRow) where
   -- behind such rows, what comes next would not be done within a budget, even at once
@@ -28,7 +28,7 @@ module _ (line : ℕ) (instrs : List (Option Instr)) (stop : Option Instr) (rows
       record {
         table = h.0;
         within = last-within budget (Some 0) [] instrs rows h.0 (omega arith) h.1;
-        no_more = subst (IsLate budget) (sym (past-first [] instrs rows h.0)) late;
+        no_more = (let later = subst (IsLate budget) (sym (past-first [] instrs rows h.0)) late in omega (arith, later));
       }
 
   pub spent-to : (budget : ℕ) → EndsSpent (Some 0) instrs stop budget rows
@@ -37,7 +37,8 @@ module _ (line : ℕ) (instrs : List (Option Instr)) (stop : Option Instr) (rows
   spent-to budget h =
       let within = (all-within budget (Some 0) [] instrs rows h.table h.within).0 in
       let judged = spent-agrees line (Some budget) [] instrs stop rows h.table within in
-      (judged.0, judged.1, subst (IsLate budget) (past-first [] instrs rows h.table) h.no_more)
+      let later : IsLate budget (past_of [] instrs rows) = omega (arith, h.no_more) in
+      (judged.0, judged.1, subst (IsLate budget) (past-first [] instrs rows h.table) later)
 
   -- the M of the last row
   abbrev last_m : Option ℕ
@@ -64,3 +65,9 @@ module _ (line : ℕ) (instrs : List (Option Instr)) (stop : Option Instr) (rows
       let judged = stopped-agrees line [] instrs stop rows
       (record { earlier = h.earlier; row = h.row; are = h.are; table = h.table; last = h.last }) in
       (judged.0, judged.1, last-is h.earlier h.row h.are ∙ ap (λ (n : ℕ). Some n) h.at)
+
+-- Behind a row whose judgments all agree, the clocks are those behind its instruction where its word and its answer come at once.
+pub row-at_once : (line : ℕ) (limit : Option ℕ) (past : List Timed) (instr : Option Instr) (row : TimeRow)
+    → Agree (row_judged line limit past instr row) → timed instr row ∷ past ≡ past_at_once past (instr ∷ [])
+row-at_once line limit past instr row all =
+    past-first past (instr ∷ []) (row ∷ []) ((row-is line limit past instr row all).0, tt)

@@ -89,7 +89,7 @@ limited-agrees line (Some limit) kept due same within =
 
 -- ---- one row
 
-row-is : (line : ℕ) (limit : Option ℕ) (past : List Timed) (instr : Option Instr) (row : TimeRow)
+pub row-is : (line : ℕ) (limit : Option ℕ) (past : List Timed) (instr : Option Instr) (row : TimeRow)
     → Agree (row_judged line limit past instr row) → IsRow (Some 0) past instr row × IsWithin limit row.m
 row-is line limit past instr row all =
     let h = parts (front_judged line past instr row) (back_judged line limit instr row) all in

@@ -1,4 +1,4 @@
-use Rattle.std.proofs.Common.{◌≡◌, List, length, sym, ap, ◌∙◌, arith}
+use Rattle.std.proofs.Common.{◌≡◌, List, length, get_or, None, sym, ap, ◌∙◌, arith}
 use Rattle.std.proofs.lemmas.Option.{same_Some}
 use Rattle.std_laws.proofs.ListLaws.{AllByRecursion-slice_get}
 use Rattle.access_log.specs.declared.Item.{Item}
@@ -8,7 +8,7 @@ use Rattle.report_text.specs.Report.{ReportValue}
 use Rattle.seq_machine.proofs.ReachingLaws.{CatchesUp-core}
 use Rattle.replayer.specs.Cores.{core_to}
 use Rattle.replayer.proofs.CoreLemmas.{caught_up_to, stands, core_rows}
-use Rattle.replayer.proofs.TablesLemmas.{kept_there}
+use Rattle.replayer.proofs.TablesLemmas.{kept_there, known_there}
 use Rattle.replayer.proofs.cores.core_difference.Goals as goal
 
 pub core_there_difference-requires-clause-items : goal.core_there_difference-requires-clause-items
@@ -23,6 +23,15 @@ core_there_difference-requires-clause-kept c =
     (ap (λ (r : ReportValue). r.cores) c.report.view_is) c.index-kept.ensures c.requires.kept in
     (AllByRecursion-slice_get (IsEnd report.setup.budget (most_rows report.setup.machine)) report.cores c.args.core
     (end_value c.index-kept.result.now) c.requires.form.ends there).retired
+
+pub core_there_difference-requires-clause-known : goal.core_there_difference-requires-clause-known
+core_there_difference-requires-clause-known c =
+    let report = c.args.report.now in
+    let ended = c.index-kept.result.now in
+    let there = kept_there c.report.inside.cores.items report.cores c.args.core ended
+    (ap (λ (r : ReportValue). r.cores) c.report.view_is) c.index-kept.ensures c.requires.kept in
+    known_there c.args.core (get_or c.args.clocks.now c.args.core None) _ report c.items-items.result.now ended.retired c.report.view_is
+    c.items-items.ensures.items (c.requires.known c.args.core (end_value ended) there)
 
 pub returns-clause-first : goal.returns-clause-first
 returns-clause-first c kept before is was =

@@ -1,10 +1,13 @@
-use Rattle.std.proofs.Common.{◌≡◌, ◌++◌, List, length, map, None, sym, ap, ◌∙◌, arith}
+use Rattle.std.proofs.Common.{◌≡◌, ◌++◌, List, length, map, Option, None, Some, sym, ap, ◌∙◌, arith}
 use Rattle.access_log.specs.Items.{entries}
 use Rattle.access_log.specs.Replay.{FlatMachine}
 use Rattle.timetable.specs.declared.CoreEnd.{CoreEnd}
 use Rattle.report_rows.specs.Ends.{end_value}
 use Rattle.report_rows.specs.declared.MemoryWord.{MemoryWord}
+use Rattle.letters.specs.Caches.{Caches}
+use Rattle.right_run.specs.Right.{caches_of}
 use Rattle.report_text.specs.Counts.{counts_of}
+use Rattle.replayer.proofs.FlatLemmas.{no_caches}
 use Rattle.report_text.specs.Report.{ReportValue, words_past}
 use Rattle.row_check.specs.Judgments.{Judgment, first_told}
 use Rattle.replayer.specs.Lists.{words_judged, counts_judged}
@@ -28,7 +31,7 @@ abbrev tables : ReportValue → List Judgment
 tables report = timetables_judged (timetables_line report) report.setup report.image (entries report.items) 0 report.cores
 
 abbrev counts : ReportValue → List Judgment
-counts report = counts_judged (counts_line report) report.counts (counts_of report.cores report.items)
+counts report = counts_judged (counts_line report) report.counts (counts_of (caches_of report.setup) report.cores report.items)
 
 pub cores_difference-requires-clause-cores : goal.cores_difference-requires-clause-cores
 cores_difference-requires-clause-cores c = c.requires.cores ∙ sym c.requires.form.cores
@@ -72,13 +75,13 @@ returns-in-Some-words_difference c =
     (before
     ∙ sym (rw (c.words_line-line.ensures, words_are, code_is, c.in_default.ensures.memory) at c.in-Some-words_difference.ensures))))
 
-pub timetables_difference-requires-clause-lines : goal.timetables_difference-requires-clause-lines
-timetables_difference-requires-clause-lines c =
+pub judge_timetables-tables-requires-clause-lines : goal.judge_timetables-tables-requires-clause-lines
+judge_timetables-tables-requires-clause-lines c =
     let report = c.args.report.now in
     omega (arith, c.timetables_line.ensures, timetables_line_is report, counts_line_is report, last_line report, c.requires.size)
 
-pub returns-in-Some-timetables_difference : goal.returns-in-Some-timetables_difference
-returns-in-Some-timetables_difference c =
+pub returns-in-Some-told : goal.returns-in-Some-told
+returns-in-Some-told c =
     let report = c.args.report.now in
     let machine = c.args.machine.now in
     let words_are : c.deref.result.now ≡ report.words = c.deref.ensures.value ∙ ap (λ (r : ReportValue). r.words) c.report.view_is in
@@ -86,10 +89,10 @@ returns-in-Some-timetables_difference c =
     let none_before : first_told (cores report machine ++ words report machine) ≡ None =
     first_behind (cores report machine) (words report machine) (sym (rw c.cores_line.ensures at c.in_default.ensures.first))
     ∙ sym (rw (c.words_line-line.ensures, words_are, code_is, c.in_default.ensures.memory) at c.in_default-words_difference.ensures) in
-    sym (first_before (cores report machine ++ words report machine ++ tables report) (counts report)
-    c.in-Some-timetables_difference.difference
-    (first_behind (cores report machine ++ words report machine) (tables report) none_before
-    ∙ sym (rw c.timetables_line.ensures at c.in-Some-timetables_difference.ensures)))
+    let told : first_told (tables report) ≡ Some c.in-Some-told.difference =
+    sym (sym c.in-Some-told.is ∙ rw c.timetables_line.ensures at c.judge_timetables-tables.ensures.told) in
+    sym (first_before (cores report machine ++ words report machine ++ tables report) (counts report) c.in-Some-told.difference
+    (first_behind (cores report machine ++ words report machine) (tables report) none_before ∙ told))
 
 pub counts_difference-requires : goal.counts_difference-requires
 counts_difference-requires c = omega (arith, last_line c.args.report.now)
@@ -100,18 +103,20 @@ returns c =
     let machine = c.args.machine.now in
     let words_are : c.deref.result.now ≡ report.words = c.deref.ensures.value ∙ ap (λ (r : ReportValue). r.words) c.report.view_is in
     let code_is : c.report.inside.image.code ≡ report.image.code = ap (λ (r : ReportValue). r.image.code) c.report.view_is in
-    let due_is : c.counts_of-due.result.values ≡ counts_of report.cores report.items =
+    let due_is : c.counts_of-due.result.values ≡ counts_of (caches_of report.setup) report.cores report.items =
     c.counts_of-due.ensures.counts
-    ∙ ap (λ (ends : List CoreEnd). counts_of (map end_value ends) c.items.result.now) c.deref-2.ensures.value
-    ∙ ap (counts_of (map end_value c.report.inside.cores.items)) c.items.ensures.items
-    ∙ ap (λ (r : ReportValue). counts_of r.cores r.items) c.report.view_is in
+    ∙ ap (λ (ends : List CoreEnd). counts_of None (map end_value ends) c.items.result.now) c.deref-2.ensures.value
+    ∙ ap (counts_of None (map end_value c.report.inside.cores.items)) c.items.ensures.items
+    ∙ ap (λ (r : ReportValue). counts_of None r.cores r.items) c.report.view_is
+    ∙ ap (λ (caches : Option Caches). counts_of caches report.cores report.items)
+    (sym (no_caches report.setup c.requires.form.header.machine)) in
     let counts_are : c.report.inside.counts.values ≡ report.counts = ap (λ (r : ReportValue). r.counts) c.report.view_is in
     let none_before : first_told (cores report machine ++ words report machine) ≡ None =
     first_behind (cores report machine) (words report machine) (sym (rw c.cores_line.ensures at c.in_default.ensures.first))
     ∙ sym (rw (c.words_line-line.ensures, words_are, code_is, c.in_default.ensures.memory) at c.in_default-words_difference.ensures) in
     let none_of_tables : first_told (cores report machine ++ words report machine ++ tables report) ≡ None =
     first_behind (cores report machine ++ words report machine) (tables report) none_before
-    ∙ sym (rw c.timetables_line.ensures at c.in_default-timetables_difference.ensures) in
+    ∙ sym (sym c.in_default-told.is ∙ rw c.timetables_line.ensures at c.judge_timetables-tables.ensures.told) in
     let told : c.counts_difference.result ≡ first_told (counts report) =
     rw (c.counts_line.ensures, due_is, counts_are) at c.counts_difference.ensures in
     told ∙ sym (first_behind (cores report machine ++ words report machine ++ tables report) (counts report) none_of_tables)
