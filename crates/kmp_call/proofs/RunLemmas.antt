@@ -2,6 +2,7 @@
 use Rattle.std.proofs.Common.{◌≡◌, Result, Ok, Err, List, [], ◌∷◌, refl, ap, subst}
 use Rattle.std.specs.Prelude.{IfOk, map}
 use Rattle.kmp_base.specs.declared.setup.Setup.{Setup}
+use Rattle.kmp_base.specs.Machines.{IsUncached}
 use Rattle.image_file.specs.Value.{ImageValue}
 use Rattle.access_log.specs.Items.{entries}
 use Rattle.timetable.specs.declared.CoreEnd.{CoreEnd}
@@ -43,9 +44,10 @@ is_report_of setup image outcome right turns form = record {
 }
 
 pub reported : {E : Type 0} (setup : Setup) (image : ImageValue) (outcome : OutcomeValue) (result : Result ReportValue E)
-    → IfOk result (λ report. report ≡ report_of setup image outcome) → IfOk result (λ report. IsRight setup image outcome → IsReport report)
+    → IfOk result (λ report. report ≡ report_of setup image outcome)
+    → IfOk result (λ report. IsUncached setup.machine → IsRight setup image outcome → IsReport report) → IsUncached setup.machine
     → IsRight setup image outcome → IsInTurns setup (cycles_of outcome.cores) (tables_of outcome.cores) (entries outcome.items)
     → IfOk result (IsReportOf setup image)
-reported setup image outcome (Ok report) is form right turns =
-    rw is (is_report_of setup image outcome right turns (subst IsReport is (form right)))
-reported setup image outcome (Err fault) is form right turns = tt
+reported setup image outcome (Ok report) is form uncached right turns =
+    rw is (is_report_of setup image outcome right turns (subst IsReport is (form uncached right)))
+reported setup image outcome (Err fault) is form uncached right turns = tt

@@ -1,5 +1,0 @@
-use Rattle.replayer.proofs.TimetableLemmas.{RowsSoFar}
-use Rattle.replayer.proofs.timetables.rows_difference.Given as goal
-
-abbrev pub invariant-loop-row : goal.invariant-loop-row
-invariant-loop-row l = RowsSoFar l.first_line l.limit l.stop l.initial.course l.rows l.line l.clocks l.course l.row-index
