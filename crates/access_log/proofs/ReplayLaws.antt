@@ -3,7 +3,7 @@ use Rattle.std.proofs.Common.{◌≡◌, ℕ, zero, suc, ◌+◌, ◌-◌, ◌�
 use Rattle.std.specs.Prelude.{nat_le, Option, Some, None}
 use Rattle.std.specs.Option.{option_and_then, option_map}
 use Rattle.std.proofs.lemmas.Bool.{leb-true, le-leb, lt-leb}
-use Rattle.std_laws.proofs.OptionLaws.{option_and_then-Some, option_and_then-assoc, option_and_then-same, option_map_parts, cond_some_parts}
+use Rattle.std_laws.proofs.OptionLaws.{option_and_then-assoc, option_and_then-same, option_map_parts, cond_some_parts}
 use Rattle.mips_isa.specs.declared.CoreState.{CoreState}
 use Rattle.mips_isa.specs.Steps.{next_of}
 use Rattle.access_log.specs.declared.Core.{Core}
@@ -107,12 +107,3 @@ entered_all-append (entry ∷ entries) others machine =
     option_and_then-same (entered_all (entries ++ others)) (λ next. option_and_then (entered_all others) (entered_all entries next))
     (λ next. entered_all-append entries others next) (entered entry machine)
     ∙ sym (option_and_then-assoc (entered_all entries) (entered_all others) (entered entry machine))
-
--- one entry more
-pub entered_all-more : (entries : List Entry) (entry : Entry) (machine : FlatMachine)
-    → entered_all (entries ++ entry ∷ []) machine ≡ option_and_then (entered entry) (entered_all entries machine)
-unfolding entered_all
-entered_all-more entries entry machine =
-    entered_all-append entries (entry ∷ []) machine
-    ∙ option_and_then-same (entered_all (entry ∷ [])) (entered entry) (λ next. option_and_then-Some (entered entry next))
-    (entered_all entries machine)

@@ -18,8 +18,6 @@ pub enum Field {
     Old,
     /// What was stored there.
     New,
-    /// Of an access over caches: how the core's data cache holds the line.
-    Letter,
     /// Of a transaction: the intent to modify.
     Im,
     /// The line that was wanted.
@@ -32,6 +30,9 @@ pub enum Field {
     Di,
     /// The line that the master dropped.
     Victim,
+    /// Of an access over caches: how the core's data cache held the line. Of a transaction: how the
+    /// master holds the line that was wanted behind it.
+    Letter,
     /// Of the end of a core: the number of instructions that it executed.
     Retired,
     /// Why it went no further.

@@ -9,6 +9,7 @@
 //! - `proofs/NumberLaws`: the numbers of an image have four bytes each.
 //! - `proofs/RoundTripLaws`: the spelling of a good image is read as that image.
 //! - `proofs/StartLaws`: how many words memory has at the start.
+//! - `proofs/WordLaws`: which word stands at an address: of the code, of a segment, or none.
 #![tactic(auto)]
 
 mod fault;

@@ -1,8 +1,10 @@
 -- What there is of a machine.
-use Rattle.std.specs.Prelude.{◌≡◌, ◌⊎◌}
+use Rattle.std.specs.Prelude.{ℕ}
 use Rattle.kmp_base.specs.declared.setup.MachineKind.{MachineKind}
-use Rattle.kmp_base.specs.declared.setup.MachineKind.TheVariants.{Plain, Pipe}
+use Rattle.kmp_base.specs.declared.setup.MachineKind.TheVariants.{Full}
+use Rattle.kmp_base.specs.declared.setup.TheConstants.{MOST_WAYS}
 
--- A machine whose memory is flat: it has no caches and no bus.
-abbrev pub IsUncached : MachineKind → Type 0
-IsUncached machine = (machine ≡ Plain) ⊎ (machine ≡ Pipe)
+-- The most ways of a set of a cache, by the machine: caches are direct-mapped. Where there are none, the number tells nothing.
+abbrev pub most_ways : MachineKind → ℕ
+most_ways Full = 1
+most_ways machine = MOST_WAYS

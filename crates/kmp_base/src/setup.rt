@@ -1,4 +1,6 @@
 //! What is asked of a run.
+ghost use Rattle.std.specs.Prelude.{◌≡◌, ◌≤◌};
+ghost use Rattle.kmp_base.specs.Machines.{most_ways};
 
 /// The most cores of a run.
 pub const MOST_CORES: u32 = 8;
@@ -21,6 +23,20 @@ pub enum MachineKind {
     Pipe,
     /// Pipelined cores over caches and a bus.
     Full,
+}
+
+impl MachineKind {
+    /// The most ways of a set of a cache: caches are direct-mapped. Where there are none, the number
+    /// tells nothing.
+    pub fn most_ways(self) -> u32
+        ensures most { result ≡ most_ways self }
+        ensures few { result ≤ MOST_WAYS }
+    {
+        match self {
+            MachineKind::Plain | MachineKind::Pipe => MOST_WAYS,
+            MachineKind::Full => 1,
+        }
+    }
 }
 
 /// Which waiting cache the bus is granted to.

@@ -1,16 +1,14 @@
 -- What is right on one machine, part by part.
-use Rattle.std.proofs.Common.{◌≡◌, ℕ, inl, inr, List, [], refl, sym, subst}
+use Rattle.std.proofs.Common.{◌≡◌, ℕ, List, refl, sym, subst}
 use Rattle.std.specs.Prelude.{Some, slice_get, map}
 use Rattle.kmp_base.specs.declared.setup.Setup.{Setup}
 use Rattle.kmp_base.specs.declared.setup.MachineKind.{MachineKind}
 use Rattle.kmp_base.specs.declared.setup.MachineKind.TheVariants.{Plain, Pipe, Full}
 use Rattle.kmp_base.specs.declared.setup.Turns.{Turns}
 use Rattle.kmp_base.specs.declared.setup.Turns.TheVariants.{Threads}
-use Rattle.kmp_base.specs.Machines.{IsUncached}
 use Rattle.image_file.specs.Value.{ImageValue, start_memory, start_states}
 use Rattle.access_log.specs.declared.Entry.{Entry}
-use Rattle.access_log.specs.declared.Item.{Item}
-use Rattle.access_log.specs.Items.{entries, transactions}
+use Rattle.access_log.specs.Items.{entries}
 use Rattle.access_log.specs.Replay.{replay}
 use Rattle.timetable.specs.declared.rows.TimeRow.{TimeRow}
 use Rattle.timetable.specs.declared.CoreEnd.{CoreEnd}
@@ -39,14 +37,6 @@ module _ (machine : MachineKind) (setup : Setup) (image : ImageValue) (outcome :
     ends = λ core ended here. subst (λ (m : MachineKind). EndsOn m setup image outcome core ended) (sym is) (right.ends core ended here);
     follows = subst (λ (m : MachineKind). FollowsOn m setup image outcome.items) (sym is) right.follows;
   }
-
--- Without caches there is no transaction.
-pub no-transaction : (machine : MachineKind) (setup : Setup) (image : ImageValue) (items : List Item) → IsUncached machine
-    → FollowsOn machine setup image items → transactions items ≡ []
-no-transaction Plain setup image items uncached h = h
-no-transaction Pipe setup image items uncached h = h
-no-transaction Full setup image items (inl is) h = cc
-no-transaction Full setup image items (inr is) h = cc
 
 -- The order of accesses by a machine and by turns.
 pub in-turns : (machine : MachineKind) (turns : Turns) (setup : Setup) (cycles : List ℕ) (tables : List (List TimeRow)) (order : List Entry)

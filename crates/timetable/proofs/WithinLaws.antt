@@ -37,12 +37,3 @@ module _ (limit : ℕ) (bound : Option ℕ) where
       let rises = m-rises bound past instr row h.0 in
       let here : row.m ≤ limit = more.1 in
       ((here, more.0), omega (arith, rises, here))
-
-  -- And where each row is, and what came before them, the last one is.
-  pub last-within : (past : List Timed) (instrs : List (Option Instr)) (rows : List TimeRow) → IsTable bound past instrs rows
-      → (prior past).m ≤ limit → AreWithin (Some limit) rows → (prior (past_of past instrs rows)).m ≤ limit
-  last-within past [] [] h before within = before
-  last-within past [] (row ∷ rows) h before within = absurd h
-  last-within past (instr ∷ instrs) [] h before within = absurd h
-  last-within past (instr ∷ instrs) (row ∷ rows) h before within =
-      last-within (timed instr row ∷ past) instrs rows h.1 within.0 within.1
