@@ -1,11 +1,10 @@
 -- Histories that follow the letters keep copies consistent.
-use Rattle.std.proofs.Common.{◌≡◌, ◌≢◌, ℕ, zero, suc, ◌*◌, ◌^◌, ◌<◌, ◌≤◌, ◌⊎◌, inl, inr, Bool, true, false, List, [], ◌∷◌}
+use Rattle.std.proofs.Common.{◌≡◌, ◌≢◌, ℕ, zero, suc, ◌*◌, ◌<◌, ◌≤◌, ◌⊎◌, inl, inr, Bool, true, false, List, [], ◌∷◌}
 use Rattle.std.proofs.Common.{refl, ap, sym, ◌∙◌, arith, subst}
-use Rattle.std.specs.Prelude.{◌==◌, ◌&&◌, not, if◌then◌else◌, is_some, Option, Some, None}
-use Rattle.std.proofs.lemmas.Bool.{cases_eq, cases_lt, cases_Bool, both_ways, eq-eqb, eqb-true, ne_eqb, and_parts, not-true}
+use Rattle.std.specs.Prelude.{◌==◌, ◌&&◌, not, if◌then◌else◌, is_some, Some, None}
+use Rattle.std.proofs.lemmas.Bool.{cases_eq, cases_lt, cases_Bool, both_ways, eq-eqb, ne_eqb, and_parts, not-true}
 use Rattle.std.proofs.Math.Path.{fun_ext}
 use Rattle.std.specs.List.{AllByRecursion}
-use Rattle.std.proofs.lemmas.Nat.{pow_pos}
 use Rattle.access_log.specs.declared.Letter.{Letter}
 use Rattle.access_log.specs.declared.Letter.TheVariants.{M, O, E, S, I}
 use Rattle.access_log.specs.declared.Entry.{Entry}
@@ -14,16 +13,11 @@ use Rattle.access_log.specs.declared.Item.{Item}
 use Rattle.access_log.specs.declared.Item.TheVariants.{Done, Bus}
 use Rattle.moesi_master.specs.Moesi.{is_held, is_sole, is_dirty, is_hit}
 use Rattle.letters.specs.Caches.{Protocol, Caches, moesi, all_with}
-use Rattle.letters.specs.Fold.{LettersValue, no_letters, cache_of, line_of, letter_after_entry, after_entry, is_that, letter_after_transaction}
-use Rattle.letters.specs.Fold.{after_transaction, letters_after, holders, supplier_of, IsAllowed, FollowsFrom}
+use Rattle.letters.specs.Fold.{LettersValue, no_letters, cache_of, line_of}
+use Rattle.letters.specs.Fold.{letter_after_entry, after_entry, letter_after_transaction}
+use Rattle.letters.specs.Fold.{after_transaction, letters_after, supplier_of, IsAllowed, FollowsFrom}
+use Rattle.letters.proofs.LetterLaws.{held-not, holders-none, bus-master, bus-slave, bus-gone, bus-was, entry-else}
 use Rattle.letters.specs.Copies.{AreConsistent, KeepsCopies, StoresByKind, MoesiKeepsCopiesConsistent, SuppliersAreDirty, DirtyCachesSupply}
-
-not_held : (x : Letter) → is_held x ≡ false → x ≡ I
-not_held M h = cc
-not_held O h = cc
-not_held E h = cc
-not_held S h = cc
-not_held I h = refl
 
 -- Who supplies.
 pub supplier-dirty : SuppliersAreDirty
@@ -62,57 +56,8 @@ supplier-none letter master line (suc n) e cache below other =
       | inr differs ↦ more (rw isnt at e) (omega arith)
     ]
 
--- Who holds nothing says so.
-holders-none : (letter : ℕ → ℕ → Letter) (master line n cache : ℕ) → holders letter master line n ≡ 0 → cache < n → cache ≢ master
-    → letter cache line ≡ I
-holders-none letter master line zero cache none below other = absurd (omega arith)
-holders-none letter master line (suc n) cache none below other = elim (cases_eq cache n) as (λ _. letter cache line ≡ I) [
-  | inl same ↦
-      (let apart : (n == master) ≡ false = ne_eqb n master (λ is. other (same ∙ is)) in
-      let bit : (if not (n == master) && is_held (letter n line) then 2 ^ n else 0) ≡ 0 = omega (arith, none) in
-      let held : (if is_held (letter n line) then 2 ^ n else 0) ≡ 0 = rw apart at bit in
-      ap (λ k. letter k line) same ∙ not_held (letter n line) (no_bit (is_held (letter n line)) held))
-  | inr differs ↦ holders-none letter master line n cache (omega (arith, none)) (omega arith) other
-]
-  where
-    no_bit : (held : Bool) → (if held then 2 ^ n else 0) ≡ 0 → held ≡ false
-    no_bit true e = (let positive : 0 < 2 ^ n = pow_pos n in absurd (omega arith))
-    no_bit false e = refl
-
--- The letters after a transaction.
-module _ (caches : Caches) (letters : LettersValue) (bus : Transaction) where
-  bus-master : letter_after_transaction caches letters bus bus.master bus.line ≡ bus.letter
-  bus-master = rw (eq-eqb bus.master bus.master refl, eq-eqb bus.line bus.line refl) refl
-
-  bus-slave : (cache : ℕ) → cache ≢ bus.master → letter_after_transaction caches letters bus cache bus.line
-      ≡ (caches.protocol cache).after_act (letters.letter cache bus.line) bus.im
-  bus-slave cache other = rw (ne_eqb cache bus.master other, eq-eqb bus.line bus.line refl) refl
-
-  -- Another line keeps its letter or is gone.
-  bus-else : (cache line : ℕ) → line ≢ bus.line → (letter_after_transaction caches letters bus cache line ≡ letters.letter cache line)
-      ⊎ (letter_after_transaction caches letters bus cache line ≡ I)
-  bus-else cache line differs = rw (ne_eqb line bus.line differs) (by (cache == bus.master) (is_that bus.victim line))
-    where
-      by : (mine dropped : Bool) → ((if mine then (if dropped then I else letters.letter cache line) else letters.letter cache line)
-          ≡ letters.letter cache line)
-          ⊎ ((if mine then (if dropped then I else letters.letter cache line) else letters.letter cache line) ≡ I)
-      by true true = inr refl
-      by true false = inl refl
-      by false dropped = inl refl
-
-  bus-gone : (cache line : ℕ) → line ≢ bus.line → letters.letter cache line ≡ I → letter_after_transaction caches letters bus cache line ≡ I
-  bus-gone cache line differs none =
-      elim (bus-else cache line differs) as (λ _. letter_after_transaction caches letters bus cache line ≡ I) [ inl e ↦ e ∙ none | inr e ↦ e ]
-
-  bus-was : (test : Letter → Bool) → test I ≡ false → (cache line : ℕ) → line ≢ bus.line
-      → test (letter_after_transaction caches letters bus cache line) ≡ true → test (letters.letter cache line) ≡ true
-  bus-was test never cache line differs h = elim (bus-else cache line differs) as (λ _. test (letters.letter cache line) ≡ true) [
-    | inl e ↦ ap test (sym e) ∙ h
-    | inr e ↦ absurd (both_ways (test (letter_after_transaction caches letters bus cache line)) (ap test e ∙ never) h)
-  ]
-
 act-invalid : (protocol : Protocol) → KeepsCopies protocol → (im : Bool) → protocol.after_act I im ≡ I
-act-invalid protocol keeps im = not_held (protocol.after_act I im) (by (is_held (protocol.after_act I im)) refl)
+act-invalid protocol keeps im = held-not (protocol.after_act I im) (by (is_held (protocol.after_act I im)) refl)
   where
     by : (b : Bool) → is_held (protocol.after_act I im) ≡ b → b ≡ false
     by true e = absurd (both_ways (is_held I) refl (keeps.was_held I im e))
@@ -126,7 +71,8 @@ module _ (caches : Caches) (keeps : (cache : ℕ) → KeepsCopies (caches.protoc
 
     gone : (cache : ℕ) → bus.im ≡ true → (caches.protocol cache).after_act (letters.letter cache bus.line) bus.im ≡ I
     gone cache e =
-        ap (λ im. (caches.protocol cache).after_act (letters.letter cache bus.line) im) e ∙ (keeps cache).gone (letters.letter cache bus.line)
+        ap (λ im. (caches.protocol cache).after_act (letters.letter cache bus.line) im) e
+        ∙ (keeps cache).gone (letters.letter cache bus.line)
 
     none : bus.ch ≡ 0 → (cache : ℕ) → cache ≢ bus.master → letters.letter cache bus.line ≡ I
     none e cache other = elim (cases_lt cache (2 * cores)) as (λ _. letters.letter cache bus.line ≡ I) [
@@ -156,7 +102,8 @@ module _ (caches : Caches) (keeps : (cache : ℕ) → KeepsCopies (caches.protoc
         by true e = gone cache e
         by false e = absurd (both_ways (is_dirty ((caches.protocol bus.master).after_finish false bus.ch))
             ((keeps bus.master).reads_clean bus.ch)
-            (ap (λ im. is_dirty ((caches.protocol bus.master).after_finish im bus.ch)) (sym e) ∙ (ap is_dirty (sym allowed.becomes) ∙ dirty)))
+            (ap (λ im. is_dirty ((caches.protocol bus.master).after_finish im bus.ch)) (sym e)
+            ∙ (ap is_dirty (sym allowed.becomes) ∙ dirty)))
 
     alone-line : (cache other : ℕ) → is_sole (after cache bus.line) ≡ true → other ≢ cache → after other bus.line ≡ I
     alone-line cache other sole differs = elim (cases_eq cache bus.master) as (λ _. after other bus.line ≡ I) [
@@ -216,17 +163,6 @@ module _ (caches : Caches) (keeps : (cache : ℕ) → KeepsCopies (caches.protoc
 
 -- The letters after an entry.
 module _ (letters : LettersValue) (entry : Entry) where
-  entry-else : (cache line : ℕ) → (cache ≡ cache_of entry → line ≡ line_of entry → ⊥)
-      → letter_after_entry letters entry cache line ≡ letters.letter cache line
-  entry-else cache line other = by (cases_Bool ((cache == cache_of entry) && (line == line_of entry)))
-    where
-      by : (((cache == cache_of entry) && (line == line_of entry)) ≡ true) ⊎ (((cache == cache_of entry) && (line == line_of entry)) ≡ false)
-          → letter_after_entry letters entry cache line ≡ letters.letter cache line
-      by (inl is_so) =
-          let same = and_parts (cache == cache_of entry) (line == line_of entry) is_so in
-          absurd (other (eqb-true cache (cache_of entry) same.0) (eqb-true line (line_of entry) same.1))
-      by (inr isnt) = rw isnt refl
-
   entry-quiet : is_some entry.new ≡ false → (cache line : ℕ) → letter_after_entry letters entry cache line ≡ letters.letter cache line
   entry-quiet none cache line = rw none (by ((cache == cache_of entry) && (line == line_of entry)))
     where
@@ -252,9 +188,10 @@ module _ (letters : LettersValue) (entry : Entry) where
       -- No other cache holds its line.
       no_copy : (cache : ℕ) → cache ≢ cache_of entry → after_store cache (line_of entry) ≡ I
       no_copy cache other =
-          entry-else cache (line_of entry) (λ same here. other same) ∙ old.alone (cache_of entry) cache (line_of entry) sole other
+          entry-else letters entry cache (line_of entry) (λ same here. other same) ∙ old.alone (cache_of entry) cache (line_of entry) sole other
 
-      only : (test : Letter → Bool) → test I ≡ false → (cache : ℕ) → test (after_store cache (line_of entry)) ≡ true → cache ≡ cache_of entry
+      only : (test : Letter → Bool) → test I ≡ false → (cache : ℕ)
+          → test (after_store cache (line_of entry)) ≡ true → cache ≡ cache_of entry
       only test never cache h = elim (cases_eq cache (cache_of entry)) as (λ _. cache ≡ cache_of entry) [
         | inl same ↦ same
         | inr other ↦ absurd (both_ways (test (after_store cache (line_of entry))) (ap test (no_copy cache other) ∙ never) h)
@@ -263,19 +200,19 @@ module _ (letters : LettersValue) (entry : Entry) where
       store-consistent : AreConsistent count (after_entry letters entry).letter
       store-consistent = record {
         within = λ cache line beyond.
-            entry-else cache line (λ same here. omega (arith, same, beyond, inside)) ∙ old.within cache line beyond;
+            entry-else letters entry cache line (λ same here. omega (arith, same, beyond, inside)) ∙ old.within cache line beyond;
         alone = λ cache other line is differs. elim (cases_eq line (line_of entry)) as (λ _. after_store other line ≡ I) [
           | inl e ↦
               (let mine : cache ≡ cache_of entry = only is_sole refl cache (ap (λ k. is_sole (after_store cache k)) (sym e) ∙ is) in
               ap (after_store other) e ∙ no_copy other (λ same. differs (same ∙ sym mine)))
-          | inr o ↦ entry-else other line (λ same here. o here)
-              ∙ old.alone cache other line (ap is_sole (sym (entry-else cache line (λ same here. o here))) ∙ is) differs
+          | inr o ↦ entry-else letters entry other line (λ same here. o here)
+              ∙ old.alone cache other line (ap is_sole (sym (entry-else letters entry cache line (λ same here. o here))) ∙ is) differs
         ];
         owner = λ cache other line a b. elim (cases_eq line (line_of entry)) as (λ _. other ≡ cache) [
           | inl e ↦ only is_dirty refl other (ap (λ k. is_dirty (after_store other k)) (sym e) ∙ b)
               ∙ sym (only is_dirty refl cache (ap (λ k. is_dirty (after_store cache k)) (sym e) ∙ a))
-          | inr o ↦ old.owner cache other line (ap is_dirty (sym (entry-else cache line (λ same here. o here))) ∙ a)
-              (ap is_dirty (sym (entry-else other line (λ same here. o here))) ∙ b)
+          | inr o ↦ old.owner cache other line (ap is_dirty (sym (entry-else letters entry cache line (λ same here. o here))) ∙ a)
+              (ap is_dirty (sym (entry-else letters entry other line (λ same here. o here))) ∙ b)
         ];
       }
 

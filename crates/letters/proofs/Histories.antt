@@ -9,8 +9,8 @@ use Rattle.letters.specs.Fold.{no_letters}
 use Rattle.letters.specs.Histories.{Shape, FollowsIn}
 use Rattle.letters.specs.Worked.{History, worked_histories, WorkedHistoriesFollow}
 use Rattle.letters.specs.Wrong.{Fork, IsTold, wrong_histories, WrongHistoriesDontFollow}
-use Rattle.letters.proofs.Deciding.{follows_from}
-use Rattle.letters.proofs.Decided.{follows-true, follows-from}
+use Rattle.letters.proofs.DecidingLaws.{follows_from}
+use Rattle.letters.proofs.DecidedLaws.{follows-true, follows-from}
 
 abbrev follows_in : Shape → List Item → Bool
 follows_in shape items = follows_from (all_with moesi shape.sets shape.ways) shape.cores shape.code_lines no_letters items

@@ -1,4 +1,5 @@
-pub mod Deciding
-pub mod Decided
+pub mod DecidingLaws
+pub mod DecidedLaws
 pub mod Histories
+pub mod LetterLaws
 pub mod CopyLaws

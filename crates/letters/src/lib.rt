@@ -1,5 +1,11 @@
 //! The letters in which caches hold lines, as the MOESI protocol has them: what a history makes of
 //! them, and when it follows them.
+//!
+//! Laws that crates above cite:
+//!
+//! - `proofs/LetterLaws`: what entries and transactions make of single letters, and the letters over an append.
+//! - `proofs/CopyLaws`: histories that follow the letters keep copies consistent.
+//! - `proofs/DecidingLaws`, `proofs/DecidedLaws`: whether a history follows the letters, by computation.
 #![tactic(auto)]
 
 ghost use Rattle.letters.specs.Copies.{MoesiKeepsCopiesConsistent, SuppliersAreDirty, DirtyCachesSupply};

@@ -14,7 +14,7 @@ use Rattle.moesi_master.specs.Moesi.{is_hit, suffices}
 use Rattle.letters.specs.Caches.{Caches}
 use Rattle.letters.specs.Fold.{LettersValue, cache_of, line_of, after_entry}
 use Rattle.letters.specs.Fold.{after_transaction, holders, victim_of, supplier_of, IsAllowed, FollowsFrom}
-use Rattle.letters.proofs.Deciding.{letter_number, may_read, is_allowed, follows_from}
+use Rattle.letters.proofs.DecidingLaws.{letter_number, may_read, is_allowed, follows_from}
 
 abbrev letter_of_number : ℕ → Letter
 letter_of_number n = if n == 0 then M else (if n == 1 then O else (if n == 2 then E else (if n == 3 then S else I)))
