@@ -9,7 +9,7 @@ use Rattle.mem_port.specs.declared.port.Port.TheVariants.{Fetch, Access}
 use Rattle.mem_port.specs.declared.port.PortState.{PortState}
 use Rattle.mem_port.specs.declared.port.PortState.TheVariants.{Free}
 use Rattle.mem_port.specs.Ports.{core_of, IsWaiting, HoldsProper, HoldsCode, HoldsEntry}
-use Rattle.mem_port.specs.Memory.{MemoryView, IsLawful, Keeps}
+use Rattle.mem_port.specs.Memory.{MemoryView, AreOnLines, IsLawful, Keeps}
 use Rattle.mem_port.proofs.PortLaws.{cases_port}
 
 -- What the port and the items have to be, so that the law is kept.
@@ -20,6 +20,7 @@ pub record IsChange (p : Port) (state : PortState) (old new : MemoryView) : Type
   pub ports : (q : Port) → q ≢ p → new.port q ≡ old.port q
   pub legal : IsLegal (start_memory old.image) new.history
   pub follows : Follows old.caches old.cores (code_lines old.image) new.history
+  pub lines : AreOnLines old.image new.history
   pub others : (core : ℕ) → Access core ≢ p → own_items new.history core ≡ own_items old.history core
   pub proper : HoldsProper old.image p state
   pub code : (core : ℕ) → Fetch core ≡ p → HoldsCode old.image state
@@ -42,6 +43,7 @@ change-lawful p state old new law h = rw (h.kept.image, h.kept.cores, h.kept.cac
   good = law.good;
   legal = h.legal;
   follows = h.follows;
+  lines = h.lines;
   within = λ core le. h.others core (λ e. (let f : core ≡ core_of p = ap core_of e in let below = h.below in absurd (omega arith)))
       ∙ law.within core le;
   proper = each-port p state old.port new.port h.is h.ports (λ q s. HoldsProper old.image q s) h.proper (λ q ne. law.proper q);

@@ -1,16 +1,13 @@
 -- A memory that answers each request as it is served keeps the law.
-use Rattle.std.proofs.Common.{◌≡◌, ◌≢◌, ℕ, zero, suc, ◌+◌, ◌*◌, ◌<◌, ◌≤◌, inl, inr, List, [], ◌∷◌, ◌++◌, length, get_or, append-nil, refl}
+use Rattle.std.proofs.Common.{◌≡◌, ◌≢◌, ℕ, ◌+◌, ◌*◌, ◌<◌, ◌≤◌, inl, inr, List, [], ◌++◌, length, get_or, refl}
 use Rattle.std.proofs.Common.{ap, sym, ◌∙◌, arith, subst, None}
 use Rattle.std.specs.Prelude.{slice_set, replicate}
 use Rattle.std.specs.List.{sum_by}
 use Rattle.std.proofs.lemmas.List.{get_or_default, get_or-replicate}
 use Rattle.std.proofs.lemmas.List.Sums.{sum_by-set}
 use Rattle.image_file.specs.Value.{ImageValue, IsGood, start_memory}
-use Rattle.mips_isa.specs.Kinds.{part}
-use Rattle.access_log.specs.Memory.{word_at}
 use Rattle.access_log.specs.Items.{transactions, after_items, IsLegal, own_items}
-use Rattle.access_log.specs.Requests.{entry_of, access_of, old_at}
-use Rattle.access_log.proofs.ItemLaws.{transactions-append, after_items-append, IsLegal-append}
+use Rattle.access_log.proofs.ItemLaws.{transactions-append, after_items-append}
 use Rattle.access_log.specs.declared.request.Request.{Request}
 use Rattle.access_log.specs.declared.Item.{Item}
 use Rattle.mem_port.specs.declared.port.Port.{Port}
@@ -18,12 +15,13 @@ use Rattle.mem_port.specs.declared.port.Port.TheVariants.{Fetch, Access}
 use Rattle.mem_port.specs.declared.port.PortState.{PortState}
 use Rattle.mem_port.specs.declared.port.PortState.TheVariants.{Free, Asked, Answered}
 use Rattle.mem_port.specs.declared.cell.Cell.{Cell}
-use Rattle.mem_port.specs.Ports.{core_of, MayAsk, IsWaiting, HoldsProper, HoldsCode, HoldsEntry, but_last, items_of}
+use Rattle.mem_port.specs.Ports.{core_of, MayAsk, IsWaiting, HoldsProper, HoldsCode, HoldsEntry, items_of}
 use Rattle.mem_port.specs.Memory.{IsLawful, IsFresh}
 use Rattle.mem_port.specs.Flat.{index_of, no_cell, cell_at, flat, IsFound, pending, weight}
-use Rattle.mem_port.proofs.CellLaws.{cell-same, cell-other}
+use Rattle.mem_port.proofs.AnswerLaws.{answer-legal, answer-no_bus, answer-other, answer-code, entry-last}
+use Rattle.mem_port.proofs.CellLaws.{cell-same, cell-other, free-all, index_of-below}
 use Rattle.mem_port.proofs.ChangeLaws.{change-lawful}
-use Rattle.mem_port.proofs.PortLaws.{cases_port, but_last-append, own-answered_other, own-answered_same}
+use Rattle.mem_port.proofs.PortLaws.{cases_port}
 
 -- What a new cell and new items need, so that the law is kept: no request waits.
 record IsCellChange (image : ImageValue) (p : Port) (state : PortState) (old new : List Item) : Type 0 where
@@ -48,6 +46,7 @@ lawful-after image cores cells p index cell old new at within below law change =
       ports = λ q ne. ap (λ (c : Cell). c.state) (cell-other cells p index cell at within q ne);
       legal = change.legal;
       follows = change.no_bus;
+      lines = rw change.no_bus tt;
       others = change.others;
       proper = change.proper;
       code = change.code;
@@ -82,39 +81,6 @@ quiet-lawful image cores cells p index cell items at within below law proper cod
       entry = λ core e. entry core;
       rests = rests;
     })
-
-legal-entry : (core : ℕ) (r : Request) (word : ℕ) (memory : List ℕ) → word ≡ old_at memory r
-    → (entry_of core r word).old ≡ part (entry_of core r word).kind (entry_of core r word).addr (word_at memory (entry_of core r word).addr)
-unfolding entry_of access_of old_at
-legal-entry core r word memory e = e
-
-answer-legal : (image : ImageValue) (items : List Item) (p : Port) (r : Request) (word : ℕ)
-    → IsFound image (after_items (start_memory image) items) p r word → IsLegal (start_memory image) items
-    → IsLegal (start_memory image) (items ++ items_of p r word)
-answer-legal image items (Fetch core) r word found legal = rw (append-nil items) legal
-answer-legal image items (Access core) r word found legal =
-    IsLegal-append (start_memory image) items (items_of (Access core) r word) legal
-    (legal-entry core r word (after_items (start_memory image) items) found, tt)
-
-answer-no_bus : (p : Port) (r : Request) (word : ℕ) → transactions (items_of p r word) ≡ []
-answer-no_bus (Fetch core) r word = refl
-answer-no_bus (Access core) r word = refl
-
-answer-other : (items : List Item) (p : Port) (r : Request) (word core : ℕ) → Access core ≢ p
-    → own_items (items ++ items_of p r word) core ≡ own_items items core
-answer-other items (Fetch c) r word core ne = ap (λ t. own_items t core) (append-nil items)
-answer-other items (Access c) r word core ne = own-answered_other items (Access c) r word core (λ e. ne (ap Access e))
-
-answer-code : (image : ImageValue) (words : List ℕ) (p : Port) (r : Request) (word core : ℕ) → IsFound image words p r word → Fetch core ≡ p
-    → HoldsCode image (Answered r word)
-answer-code image words (Fetch c) r word core found e = found
-answer-code image words (Access c) r word core found e = cc
-
-entry-last : (items : List Item) (core : ℕ) (r : Request) (word : ℕ)
-    → HoldsEntry core (own_items (items ++ items_of (Access core) r word) core) (Answered r word)
-entry-last items core r word =
-    let e = own-answered_same items core r word in
-    e ∙ ap (λ t. t ++ entry_of core r word ∷ []) (sym (ap but_last e ∙ but_last-append (own_items items core) (entry_of core r word)))
 
 asked-may : (image : ImageValue) (cores : ℕ) (cells : List Cell) (p : Port) (index : ℕ) (cell : Cell) (r : Request) (items : List Item)
     → index ≡ index_of p → index < length cells → IsLawful (flat image cores items cells) → cell ≡ get_or cells index cell
@@ -163,15 +129,6 @@ room-after cells index cell r word spare left within read asked h k =
 
 -- Before the first call.
 
-free-all : (n index asks : ℕ) → (get_or (replicate n (record { state = Free; asks = asks })) index no_cell).state ≡ Free
-free-all zero index asks = refl
-free-all (suc n) zero asks = refl
-free-all (suc n) (suc index) asks = free-all n index asks
-
-index_of-below : (p : Port) (n : ℕ) → core_of p < n → index_of p < 2 * n
-index_of-below (Fetch core) n h = omega arith
-index_of-below (Access core) n h = omega arith
-
 -- With no items and free cells the law holds.
 free-lawful : (image : ImageValue) (cores : ℕ) (cells : List Cell) → IsGood image → ((port : Port) → (cell_at cells port).state ≡ Free)
     → IsLawful (flat image cores [] cells)
@@ -179,6 +136,7 @@ free-lawful image cores cells good free = record {
   good = good;
   legal = tt;
   follows = refl;
+  lines = tt;
   within = λ core le. refl;
   proper = λ q. (let S : PortState → Type 0 = λ s. HoldsProper image q s in subst S (sym (free q)) tt);
   fetched = λ core. (let S : PortState → Type 0 = λ s. HoldsCode image s in subst S (sym (free (Fetch core))) tt);

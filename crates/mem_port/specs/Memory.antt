@@ -1,7 +1,8 @@
 -- The law of a memory that serves several cores.
 use Rattle.std.specs.Prelude.{◌≡◌, ◌≢◌, ℕ, ◌+◌, ◌*◌, ◌<◌, ◌≤◌, ◌⊎◌, Bool, true, false, IsTrue, Option, Some, None, List, [], ◌∷◌, ◌++◌}
+use Rattle.std.specs.List.{AllByRecursion}
 use Rattle.image_file.specs.Value.{ImageValue, IsGood, start_memory, code_lines}
-use Rattle.access_log.specs.Items.{after_items, IsLegal, own_items}
+use Rattle.access_log.specs.Items.{transactions, after_items, IsLegal, own_items}
 use Rattle.access_log.specs.declared.request.Request.{Request}
 use Rattle.access_log.specs.declared.Entry.{Entry}
 use Rattle.access_log.specs.declared.Transaction.{Transaction}
@@ -40,6 +41,10 @@ pub record MemoryView : Type 0 where
   pub tells_load : Bool
   pub load : ℕ
 
+-- Each transaction was of a line of memory.
+abbrev pub AreOnLines : ImageValue → List Item → Type 0
+AreOnLines image items = AllByRecursion (λ (bus : Transaction). bus.line < image.memory_lines) (transactions items)
+
 -- The entries that a core has taken.
 abbrev pub committed : MemoryView → ℕ → List Entry
 committed m core = taken_of (m.port (Access core)) (own_items m.history core)
@@ -51,6 +56,7 @@ pub record IsLawful (m : MemoryView) : Type 0 where
   pub legal : IsLegal (start_memory m.image) m.history
   -- The caches were good for each access, and each transaction was one that they needed.
   pub follows : Follows m.caches m.cores (code_lines m.image) m.history
+  pub lines : AreOnLines m.image m.history
   -- Only its cores made accesses.
   pub within : (core : ℕ) → m.cores ≤ core → own_items m.history core ≡ []
   -- What is on a port may be asked there.
@@ -198,3 +204,4 @@ pub record Settles (m : MemoryView) (words : List ℕ) (items : List Item) : Typ
   pub memory : words ≡ after_items (start_memory m.image) m.history
   pub history : (bus : Option Transaction) × (items ≡ m.history ++ bus_items bus)
   pub follows : Follows m.caches m.cores (code_lines m.image) items
+  pub lines : AreOnLines m.image items

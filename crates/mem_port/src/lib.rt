@@ -11,6 +11,7 @@
 //! - `proofs/SideLaws`: ports that may have been answered meanwhile; what calls for one core leave of the
 //!   others, and what they mean to itself.
 //! - `proofs/CellLaws`: what a change of one cell leaves of all ports.
+//! - `proofs/AnswerLaws`: what an answer adds to a history.
 //! - `proofs/ChangeLaws`: a memory in which one port changes keeps the law.
 #![tactic(auto)]
 

@@ -83,9 +83,9 @@ module _ (history : ServiceHistory) (v : PipeValue) (zero : history.bound ≡ So
       let Q : Option Slot → Type 0 = λ s. DecodesWhere v.image.code f.front_dpc f.front_pc s in
       let there = subst Q h under.chained.in_id in
       let R : Option Slot → Option Slot → Type 0 = λ s u. f.front_dpc ≡ (behind u (behind s (state_of f) 0) 0).dpc in
-      let R1 : Option Slot → Type 0 = λ s. R s f.stages.ex in
-      let R2 : Option Slot → Type 0 = λ u. R None u in
-      let front : f.front_dpc ≡ (state_of f).dpc = subst R2 g (subst R1 e (under.chained.front_dpc_is 0 0)) in
+      let of_ex : Option Slot → Type 0 = λ s. R s f.stages.ex in
+      let of_mem : Option Slot → Type 0 = λ u. R None u in
+      let front : f.front_dpc ≡ (state_of f).dpc = subst of_mem g (subst of_ex e (under.chained.front_dpc_is 0 0)) in
       let at : x.instr ≡ due = there.0.instr_is ∙ ap (λ d. instr_on v.image.code d) front in
       let first = begins-first past x.instr _ _ on in
       let ops = operands-there f.stages x.instr g e in

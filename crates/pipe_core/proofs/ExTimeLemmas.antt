@@ -118,9 +118,9 @@ module _ (k : Option ℕ) (p : ImageValue) (t : ℕ) (past : List Timed) (left p
         d_due = λ y o k l n r. (
             let R : Option Slot → Option Slot
             → Type 0 = λ s u. ready_for (onto s (mem_row (record f.ex_times { e = t + 1 }) r) (onto u r past)) y.instr ≤ t + 1 in
-            let R1 : Option Slot → Type 0 = λ s. R s f.stages.mem in
-            let R2 : Option Slot → Type 0 = λ u. R (Some x) u in
-            let ready = subst R2 e (subst R1 g (a.free y o k l (mem_row (record f.ex_times { e = t + 1 }) r) r)) in
+            let of_mem : Option Slot → Type 0 = λ s. R s f.stages.mem in
+            let of_wb : Option Slot → Type 0 = λ u. R (Some x) u in
+            let ready = subst of_wb e (subst of_mem g (a.free y o k l (mem_row (record f.ex_times { e = t + 1 }) r) r)) in
             let fi = a.id_below.f in
             d-due (mem_row (record f.ex_times { e = t + 1 }) r) _ f.id_times.f (t + 1) (omega arith) (omega arith) ready (inr (inl refl)));
         blocked = λ y k l n. (

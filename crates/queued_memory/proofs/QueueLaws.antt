@@ -171,6 +171,7 @@ module _ (queue : QueueView) (m : MemoryView) (is : IsQueue queue m) where
     good = is.lawful.good;
     legal = is.lawful.legal;
     follows = is.lawful.follows;
+    lines = is.lawful.lines;
     within = is.lawful.within;
     proper = λ q. shown-proper m.image q (index_of queue.waiting q) (m.port q) (is.lawful.proper q);
     fetched = λ core. shown-code m.image (index_of queue.waiting (Fetch core)) (m.port (Fetch core)) (is.lawful.fetched core);
