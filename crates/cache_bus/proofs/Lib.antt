@@ -1,0 +1,9 @@
+pub mod CountLaws
+pub mod LineLaws
+pub mod MainLaws
+pub mod InsideLaws
+pub mod LookLaws
+pub mod StepLaws
+pub mod AnswerLaws
+pub mod EndLaws
+pub mod StartLaws

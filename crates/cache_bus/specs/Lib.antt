@@ -1,0 +1,4 @@
+pub mod Caches
+pub mod View
+pub mod Calls
+pub mod Inside
