@@ -1,0 +1,3 @@
+pub mod OnlyLaws
+mod FollowLaws
+mod ItemLemmas
