@@ -1,5 +1,5 @@
 //! The check of one row of a report against what is due in it: what is told of a field that differs, and the fields of a
-//! timetable's rows on a memory that answers at once.
+//! timetable's rows on a memory that answers at once, within a bound, or at any time.
 //!
 //! Laws that crates above cite:
 //!
@@ -14,4 +14,4 @@ mod rows;
 
 pub use clocks::Clocks;
 pub use difference::Difference;
-pub use rows::{row_difference, stop_difference};
+pub use rows::{limit_for, row_difference, stop_difference};
