@@ -1,5 +1,5 @@
 -- A right report keeps the bounds of those that are read.
-use Rattle.std.proofs.Common.{◌≡◌, ℕ, zero, suc, ◌+◌, ◌-◌, ◌*◌, ◌==◌, ◌<◌, ◌≤◌, Bool, true, false, List, [], ◌∷◌, length, get_or, drop, map, inl, inr}
+use Rattle.std.proofs.Common.{◌≡◌, ℕ, zero, suc, ◌+◌, ◌-◌, ◌*◌, ◌==◌, ◌<◌, ◌≤◌, Bool, true, false, List, [], ◌∷◌, length, get_or, drop, map}
 use Rattle.std.proofs.Common.{refl, sym, ap, subst, ◌∙◌, arith}
 use Rattle.std.specs.Prelude.{Option, Some, None, slice_get, if◌then◌else◌}
 use Rattle.std.specs.Option.{option_map}
@@ -12,7 +12,7 @@ use Rattle.std_laws.proofs.ListLaws.{AllByRecursion-weaker}
 use Rattle.kmp_base.specs.declared.setup.Setup.{Setup}
 use Rattle.kmp_base.specs.declared.setup.MachineKind.{MachineKind}
 use Rattle.kmp_base.specs.declared.setup.MachineKind.TheVariants.{Plain, Pipe, Full}
-use Rattle.kmp_base.specs.Machines.{IsUncached}
+use Rattle.kmp_base.specs.Machines.{most_ways}
 use Rattle.kmp_base.specs.Limits.{IsWithinLimits}
 use Rattle.mips_isa.specs.declared.Instr.{Instr}
 use Rattle.mips_isa.specs.declared.Next.{Next}
@@ -40,28 +40,31 @@ use Rattle.timetable.proofs.TraceLengthLaws.{length-trace}
 use Rattle.right_run.specs.Cycles.{EndsRightly, IsPlainEnd}
 use Rattle.right_run.specs.Stages.{found_by, executed_by, EndsInStages, IsStagedEnd}
 use Rattle.right_run.specs.Right.{IsRight, caches_of}
-use Rattle.right_run.proofs.MachineLaws.{IsRightOn, right-on, no-transaction}
+use Rattle.right_run.proofs.MachineLaws.{IsRightOn, right-on}
 use Rattle.report_rows.specs.declared.MemoryWord.{MemoryWord}
-use Rattle.report_rows.specs.Bounds.{IsWord, IsTime, IsItem, most_ways, most_rows, AreTimes, IsEnd, AreMemoryWords, IsCount}
+use Rattle.report_rows.specs.Bounds.{IsWord, IsTime, IsItem, most_rows, AreTimes, IsEnd, AreMemoryWords, IsCount}
 use Rattle.report_rows.specs.Ends.{end_value}
 use Rattle.report_text.specs.Counts.{counts_of}
 use Rattle.report_text.specs.Form.{IsReport}
 use Rattle.report_text.specs.Report.{words_from, words_past, report_of}
 use Rattle.report_text.proofs.CountLaws.{length-counts_of}
 use Rattle.report_build.proofs.FormReplay.{replay-cores, IsAsked, all_asked}
+use Rattle.report_build.proofs.TransactionForm.{IsOnBus, AreOnLines, bus-form}
 
 -- ---- the accesses
 
-items_form : (machine : MachineKind) (cores bytes most : ℕ) (items : List Item) → most ≤ 100000 → transactions items ≡ []
+items_form : (machine : MachineKind) (cores bytes most : ℕ) (items : List Item) → most ≤ 100000
+    → AllByRecursion (IsOnBus machine cores bytes) (transactions items)
     → AllByRecursion (λ (entry : Entry). entry.core < cores) (entries items)
     → AllByRecursion (IsAsked bytes most) (entries items) → AllByRecursion HasWords items
     → AllByRecursion (IsItem machine cores bytes) items
-items_form machine cores bytes most [] few none within asked words = tt
-items_form machine cores bytes most (Bus transaction ∷ items) few none within asked words = cc
-items_form machine cores bytes most (Done entry ∷ items) few none within asked words =
+items_form machine cores bytes most [] few buses within asked words = tt
+items_form machine cores bytes most (Bus transaction ∷ items) few buses within asked words =
+    (buses.0, items_form machine cores bytes most items few buses.1 within asked words.1)
+items_form machine cores bytes most (Done entry ∷ items) few buses within asked words =
     let time : entry.nth ≤ 100002 = omega (arith, few, asked.0.nth) in (
       record { core = within.0; nth = time; kind = asked.0.kind; addr = asked.0.addr; old = words.0.0; new = words.0.1 },
-      items_form machine cores bytes most items few none within.1 asked.1 words.1,
+      items_form machine cores bytes most items few buses within.1 asked.1 words.1,
     )
 
 -- ---- the ends of the cores
@@ -224,16 +227,16 @@ module _ (machine : MachineKind) (setup : Setup) (image : ImageValue) (outcome :
       (length-trace image.code (4 * length (start_memory image)) (own_entries core) ended.retired start alone.mid (final_of ended)
       alone.own_entries alone.end)
 
-  items_are : IsUncached machine → IsGood image → setup.budget ≤ 100000 → All HasWords outcome.items
+  items_are : setup.cores ≤ 8 → AreOnLines image outcome.items → IsGood image → setup.budget ≤ 100000 → All HasWords outcome.items
       → ((core : ℕ) (ended : CoreEnd) → slice_get outcome.cores core ≡ Some ended → ended.retired ≤ setup.budget)
       → AllByRecursion (IsItem machine setup.cores (memory_bytes image)) outcome.items
-  items_are uncached good few words within =
+  items_are few_cores lines good few words within =
       let few_retired : (core n : ℕ) → slice_get (retired_of outcome.cores) core ≡ Some n → n ≤ setup.budget =
       λ core n here. let ended = retired_at outcome.cores core n here in omega (arith, within core ended.0 ended.1, ended.2) in
       let asked = all_asked image.code (start_memory image) (start_states image setup.cores) (entries outcome.items)
       (retired_of outcome.cores) finals outcome.words setup.budget interleaves few_retired in
-      let none = no-transaction machine setup image outcome.items uncached right.follows in
-      items_form machine setup.cores (memory_bytes image) setup.budget outcome.items few none
+      let buses = bus-form machine setup image outcome.items few_cores lines right.follows in
+      items_form machine setup.cores (memory_bytes image) setup.budget outcome.items few buses
       (rw (length-start_states image setup.cores) at interleaves.within)
       (rw (bytes-start_memory image good) at asked) (recursion_from_All HasWords outcome.items words)
 
@@ -264,25 +267,21 @@ are_within Full setup image outcome good few right core ended here =
     staged_within None setup.budget image core setup.cores (own (entries outcome.items) core) ended few
     (executed Full setup image outcome right good core ended here) (right.ends core ended here)
 
-ways_fit : (machine : MachineKind) → IsUncached machine → (ways : ℕ) → ways ≤ 8 → ways ≤ most_ways machine
-ways_fit Plain is ways few = few
-ways_fit Pipe is ways few = few
-ways_fit Full (inl plain) ways few = absurd cc
-ways_fit Full (inr pipe) ways few = absurd cc
-
 -- the words and counts of what a run leaves fit their types
 pub record Fits (setup : Setup) (image : ImageValue) (outcome : OutcomeValue) : Type 0 where
   pub seed : IsWord setup.seed
   pub good : IsGood image
+  pub ways : setup.ways ≤ most_ways setup.machine
   pub items : All HasWords outcome.items
+  pub lines : AreOnLines image outcome.items
   pub states : All (λ (ended : CoreEnd). IsState ended.state) outcome.cores
   pub words : All (λ (word : MemoryWord). IsWord word.value) (words_past (length image.code) outcome.words)
   pub counts : All IsCount (counts_of (caches_of setup) (map end_value outcome.cores) outcome.items)
 
-pub right_form : (setup : Setup) (image : ImageValue) (outcome : OutcomeValue) → IsWithinLimits setup → IsUncached setup.machine
+pub right_form : (setup : Setup) (image : ImageValue) (outcome : OutcomeValue) → IsWithinLimits setup
     → Fits setup image outcome → IsRight setup image outcome → IsReport (report_of setup image outcome)
 unfolding report_of AreWithin
-right_form setup image outcome limits uncached fits is =
+right_form setup image outcome limits fits is =
     let machine = setup.machine in
     let right = right-on machine setup image outcome refl is in
     let ends = map end_value outcome.cores in
@@ -291,14 +290,13 @@ right_form setup image outcome limits uncached fits is =
     λ core d below. within core (get_or outcome.cores core d) (slice_get-get_or outcome.cores core d below) in
     record {
       header = record {
-        machine = uncached;
         limits = limits;
-        ways = ways_fit machine uncached setup.ways limits.ways;
+        ways = fits.ways;
         seed = fits.seed;
       };
       image = spelling_is_read image fits.good;
       image_size = fits.good.few_bytes;
-      items = items_are machine setup image outcome right uncached fits.good limits.budget fits.items
+      items = items_are machine setup image outcome right limits.cores fits.lines fits.good limits.budget fits.items
           (λ core ended here. (within core ended here).retired);
       cores = length-map outcome.cores end_value ∙ cores_are machine setup image outcome right;
       ends = ends_form setup.budget (most_rows machine) outcome.cores limits.budget

@@ -1,2 +1,4 @@
 pub mod FormReplay
+pub mod TransactionForm
 pub mod FormLaws
+pub mod TransactionCounts

@@ -2,5 +2,7 @@
 #![tactic(auto)]
 
 mod build;
+mod counts;
 
-pub use build::{build_report, counts_of};
+pub use build::build_report;
+pub use counts::counts_of;

@@ -1,10 +1,11 @@
 -- The header and the image's rows but the last are read as what they spell.
 use Rattle.std.proofs.Common.{◌≡◌, ℕ, ◌+◌, ◌-◌, ◌*◌, ◌/◌, ◌^◌, ◌<◌, ◌≤◌, zero, suc, List, [], ◌∷◌, ◌++◌, length, take, drop, map, Ok, refl}
-use Rattle.std.proofs.Common.{inl, sym, ap, subst, ◌∙◌, arith, length-append, length-drop, drop-drop}
+use Rattle.std.proofs.Common.{sym, ap, subst, ◌∙◌, arith, length-append, length-drop, drop-drop}
 use Rattle.std.specs.Prelude.{codes, replicate}
 use Rattle.std.specs.List.{range_with_len}
 use Rattle.std.proofs.lemmas.List.{append-nil, take-append-drop, length-take-le, length-replicate, take-append-le, drop-append-le, take_all}
 use Rattle.std.proofs.lemmas.List.{nil_from_length, take_at, drop_at}
+use Rattle.kmp_base.specs.Machines.{most_ways}
 use Rattle.kmp_base.specs.declared.setup.Setup.{Setup}
 use Rattle.kmp_base.specs.declared.setup.MachineKind.{MachineKind}
 use Rattle.kmp_base.specs.declared.setup.MachineKind.TheVariants.{Plain, Pipe, Full}
@@ -19,7 +20,7 @@ use Rattle.kmp_base.specs.Bind.{◌>>=◌}
 use Rattle.row_reader.specs.Reading.{row_at}
 use Rattle.row_reader.proofs.PartLaws.{one_line, row_part, then_part}
 use Rattle.row_reader.proofs.ManyLaws.{part_as, last_part, map_part, then_known, last_known}
-use Rattle.report_rows.specs.Bounds.{IsReadable, most_ways, IsByte, IsHeader}
+use Rattle.report_rows.specs.Bounds.{IsByte, IsHeader}
 use Rattle.report_rows.specs.Rows.{number_row, bytes_row, bytes_row_at, header_rows}
 use Rattle.report_row_reader.specs.Reading.{bytes_row_of}
 use Rattle.report_row_reader.proofs.RowLaws.{fixed_law, number_law, machine_law, sets_law, policy_law, turns_law, bytes_law}
@@ -61,7 +62,7 @@ FieldsOn machine z =
 
 -- what all its rows say
 abbrev HeaderFields : Setup → Type 0
-HeaderFields z = Unit {0} × (Unit {0} × (IsReadable z.machine × FieldsOn z.machine z))
+HeaderFields z = Unit {0} × (Unit {0} × (Unit {0} × FieldsOn z.machine z))
 
 -- a header with this machine
 abbrev HasMachine : MachineKind → Unit {0} → Setup → Type 0
@@ -81,7 +82,7 @@ header_fields : IsPart HeaderFields header_rows header_at
 unfolding header_at caches_at header_rows make_setup
 header_fields =
     then_known _ _ _ (λ z. tt) _ _ _ _ (row_part _ _ _ (fixed_law (codes "kmp-report" ∷ codes "1" ∷ [])) (tt, tt)) (λ title _.
-    then_known _ _ _ (λ z. z.machine) _ _ _ _ (row_part _ _ _ machine_law (Plain, inl refl)) (λ machine _.
+    then_known _ _ _ (λ z. z.machine) _ _ _ _ (row_part _ _ _ machine_law (Plain, tt)) (λ machine _.
     part_as (λ z. HasMachine machine title z × FieldsOn machine z) (λ z. HasMachine machine title z × FieldsOn z.machine z) _ _ _
     (λ z h. (h.0, subst (λ m. FieldsOn m z) (sym h.0.0) h.1)) (λ z h. (h.0, subst (λ m. FieldsOn m z) h.0.0 h.1)) (λ z h. refl) (
     then_known _ _ _ (λ z. z.cores) _ _ _ _ (row_part _ _ _ (number_law (codes "cores") 1 8 (omega arith)) (1, (omega arith, omega arith)))
@@ -113,7 +114,6 @@ header_part : IsPart IsHeader header_rows header_at
 header_part =
     part_as HeaderFields IsHeader header_rows header_rows header_at
     (λ z h. record {
-      machine = h.1.1.0;
       limits = record {
         some_cores = h.1.1.1.0.0;
         cores = h.1.1.1.0.1;
@@ -132,7 +132,7 @@ header_part =
       (
         tt,
         (
-          i.machine,
+          tt,
           (
             (i.limits.some_cores, i.limits.cores),
             (

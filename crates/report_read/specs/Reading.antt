@@ -3,6 +3,7 @@
 use Rattle.std.specs.Prelude.{ℕ, zero, suc, ◌+◌, ◌-◌, ◌*◌, ◌/◌, ◌^◌, List, [], ◌∷◌, ◌++◌, length, map, codes, Option, Some, None, Result}
 use Rattle.std.specs.Prelude.{Ok, Err, if◌then◌else◌}
 use Rattle.std.specs.List.{range_with_len}
+use Rattle.kmp_base.specs.Machines.{most_ways}
 use Rattle.kmp_base.specs.declared.setup.Setup.{Setup}
 use Rattle.kmp_base.specs.declared.setup.MachineKind.{MachineKind}
 use Rattle.kmp_base.specs.declared.setup.Policy.{Policy}
@@ -18,7 +19,7 @@ use Rattle.report_rows.specs.declared.MemoryWord.{MemoryWord}
 use Rattle.report_row_reader.specs.declared.read.EndRow.{EndRow}
 use Rattle.report_rows.specs.Ends.{EndValue}
 use Rattle.report_rows.specs.Names.{count_names}
-use Rattle.report_rows.specs.Bounds.{most_ways, most_rows}
+use Rattle.report_rows.specs.Bounds.{most_rows}
 use Rattle.report_row_reader.specs.Reading.{fixed_of, number_row_of, machine_row_of, sets_row_of, policy_row_of, turns_row_of}
 use Rattle.report_row_reader.specs.Reading.{bytes_row_of, is_item, item_row_of, end_row_of, registers_row_of, memory_row_of, count_row_of}
 use Rattle.report_row_reader.specs.Reading.{NumberedRow, numbered, after_row, is_timed, timed_row_of}

@@ -7,7 +7,6 @@ ghost use Rattle.report_read.specs.Reading.{caches_at, header_at};
 use crate::rows::{first_row, fixed_at, number_at};
 use kmp_base::{MOST_BUDGET, MOST_CORES, MachineKind, Policy, Setup, Turns};
 use report_row_reader::{machine_row, policy_row, sets_row, turns_row};
-use report_rows::most_ways;
 use row_reader::Stuck;
 
 /// The seed and the caches, and the setup with them.
@@ -26,7 +25,7 @@ fn caches<'a>(
 {
     let (seed, rest) = number_at(text, b"seed", 0, u32::MAX as u64)?;
     let (sets, rest) = first_row(rest, |row| sets_row(row))?;
-    let (ways, rest) = number_at(rest, b"ways", 1, u64::from(most_ways(machine)))?;
+    let (ways, rest) = number_at(rest, b"ways", 1, u64::from(machine.most_ways()))?;
     let setup = Setup {
         machine,
         cores,

@@ -24,7 +24,7 @@ use Rattle.row_reader.proofs.PartLaws.{IsRow}
 use Rattle.row_reader.proofs.FieldLaws.{IsField, bind_some, some_is, field_some, then_field, last_field, row_as}
 use Rattle.row_reader.proofs.NumberLaws.{number_field, word_field, optional_field, exactly_field, bytes_field, optional_number_field}
 use Rattle.report_rows.specs.declared.MemoryWord.{MemoryWord}
-use Rattle.report_rows.specs.Bounds.{IsReadable, has_bus, IsWord, IsByte, IsTime, IsAddress, IsEntry, IsCache, IsLine, IsTransaction, IsItem}
+use Rattle.report_rows.specs.Bounds.{has_bus, IsWord, IsByte, IsTime, IsAddress, IsEntry, IsCache, IsLine, IsTransaction, IsItem}
 use Rattle.report_rows.specs.Bounds.{IsMemoryWord, IsCount}
 use Rattle.report_rows.specs.Rows.{text_row, number_row, bytes_row, entry_row, transaction_row, item_row, core_row, memory_row, count_row}
 use Rattle.report_row_reader.specs.declared.read.EndRow.{EndRow}
@@ -99,7 +99,7 @@ pub sets_law : IsRow (λ n. ((k : ℕ) × (n ≡ 2 ^ k)) × (n ≤ 256)) (number
 unfolding sets_row_of
 sets_law = behind_law _ _ _ (codes "sets") sets_field
 
-pub machine_law : IsRow IsReadable (λ machine. text_row (codes "machine") (machine_name machine)) machine_row_of
+pub machine_law : IsRow (λ machine. Unit {0}) (λ machine. text_row (codes "machine") (machine_name machine)) machine_row_of
 unfolding machine_row_of
 machine_law = behind_law _ _ _ (codes "machine") machine_field
 

@@ -33,9 +33,9 @@ use Rattle.access_log.specs.declared.Letter.TheVariants as letters
 use Rattle.access_log.specs.Names.{letter_name}
 use Rattle.mips_isa.specs.Names.{kind_name}
 use Rattle.timetable.specs.Names.{end_name}
-use Rattle.report_rows.specs.Bounds.{IsReadable, IsWord, IsAddress}
+use Rattle.report_rows.specs.Bounds.{IsWord, IsAddress}
 use Rattle.report_rows.specs.Names.{bit_name}
-use Rattle.report_row_reader.specs.Reading.{every_readable, every_access, every_end, machine_of, policy_of, turns_of, kind_of, end_of}
+use Rattle.report_row_reader.specs.Reading.{every_machine, every_access, every_end, machine_of, policy_of, turns_of, kind_of, end_of}
 use Rattle.report_row_reader.specs.Reading.{number_from, sets_of, is_address, every_bit, bit_of, every_letter, letter_of, halfword_of}
 use Rattle.report_row_reader.specs.Reading.{address_of, address_from, some_word_of}
 
@@ -61,30 +61,17 @@ named_found name [] text x e = absurd cc
 named_found name (value ∷ values) text x e =
     named_here name text value x (bytes_eq (name value) text) (named (with_names name values) text) refl (named_found name values text x) e
 
-machine_again : (machine : MachineKind) → IsReadable machine → machine_of (machine_name machine) ≡ Some machine
+machine_again : (machine : MachineKind) → machine_of (machine_name machine) ≡ Some machine
 unfolding machine_of
-machine_again machines.Plain fits = refl
-machine_again machines.Pipe fits = refl
-machine_again machines.Full (inl plain) = absurd cc
-machine_again machines.Full (inr pipe) = absurd cc
+machine_again machines.Plain = refl
+machine_again machines.Pipe = refl
+machine_again machines.Full = refl
 
-is_readable : (machine : MachineKind) → machine_of (machine_name machine) ≡ Some machine → IsReadable machine
+pub machine_field : IsField (λ (machine : MachineKind). Unit {0}) machine_name machine_of
 unfolding machine_of
-is_readable machines.Plain e = inl refl
-is_readable machines.Pipe e = inr refl
-is_readable machines.Full e = absurd cc
-
-machine_found : (text : List ℕ) (machine : MachineKind) → machine_of text ≡ Some machine
-    → IsReadable machine × (text ≡ machine_name machine)
-unfolding machine_of
-machine_found text machine e =
-    let is = named_found machine_name every_readable text machine e in
-    (is_readable machine (ap machine_of (sym is) ∙ e), is)
-
-pub machine_field : IsField IsReadable machine_name machine_of
 machine_field = record {
-  found = machine_found;
-  again = machine_again;
+  found = λ text machine e. (tt, named_found machine_name every_machine text machine e);
+  again = λ machine fits. machine_again machine;
 }
 
 policy_again : (policy : Policy) → policy_of (policy_name policy) ≡ Some policy

@@ -11,7 +11,7 @@ use Rattle.row_reader.specs.Fields.{◌>>=◌, part_at, field_at, ended}
 use Rattle.row_reader.specs.Numbers.{number_of, optional_number_of, word_of, optional_word_of, bytes_of, exactly}
 use Rattle.kmp_base.specs.Names.{named, with_names, machine_name, policy_name, turns_name, every_policy, every_turns}
 use Rattle.kmp_base.specs.declared.setup.MachineKind.{MachineKind}
-use Rattle.kmp_base.specs.declared.setup.MachineKind.TheVariants.{Plain, Pipe}
+use Rattle.kmp_base.specs.declared.setup.MachineKind.TheVariants.{Plain, Pipe, Full}
 use Rattle.kmp_base.specs.declared.setup.Policy.{Policy}
 use Rattle.kmp_base.specs.declared.setup.Turns.{Turns}
 use Rattle.mips_isa.specs.declared.Kind.{Kind}
@@ -36,13 +36,12 @@ use Rattle.report_row_reader.specs.declared.read.EndRow.{EndRow}
 
 -- ---- names
 
--- the machines whose reports are read
-abbrev pub every_readable : List MachineKind
-every_readable = Plain ∷ Pipe ∷ []
+abbrev pub every_machine : List MachineKind
+every_machine = Plain ∷ Pipe ∷ Full ∷ []
 
 -- the one of this name
 unfoldable pub machine_of : List ℕ → Option MachineKind
-machine_of text = named (with_names machine_name every_readable) text
+machine_of text = named (with_names machine_name every_machine) text
 
 -- the policy of this name
 unfoldable pub policy_of : List ℕ → Option Policy

@@ -13,12 +13,11 @@ use report_rows::MOST_TIME;
 use row_reader::{Parts, bytes_of, name, number_of, optional_number_of, word_of};
 use timetable::End;
 
-/// A machine whose reports are read.
 #[tactic(auto, unfolding(crate::specs::Reading::machine_of))]
 pub(crate) fn machine_of(text: &[u8]) -> Option<MachineKind>
     ensures { result ≡ machine_of text.now }
 {
-    let machines = [MachineKind::Plain, MachineKind::Pipe];
+    let machines = [MachineKind::Plain, MachineKind::Pipe, MachineKind::Full];
     named(&machines.map(|machine| (machine.name(), machine)), text)
 }
 

@@ -5,7 +5,7 @@ use Rattle.kmp_base.specs.declared.setup.Setup.{Setup}
 use Rattle.kmp_base.specs.declared.setup.MachineKind.{MachineKind}
 use Rattle.kmp_base.specs.declared.setup.MachineKind.TheVariants.{Plain, Full}
 use Rattle.kmp_base.specs.Limits.{IsWithinLimits}
-use Rattle.kmp_base.specs.Machines.{IsUncached}
+use Rattle.kmp_base.specs.Machines.{most_ways}
 use Rattle.mips_isa.specs.declared.Kind.TheVariants.{Fetch}
 use Rattle.access_log.specs.declared.Entry.{Entry}
 use Rattle.access_log.specs.declared.Transaction.{Transaction}
@@ -26,23 +26,13 @@ IsByte n = n < 2 ^ 8
 abbrev pub IsTime : ℕ → Type 0
 IsTime n = n ≤ 100002
 
--- The machines whose reports are read: those whose reports are judged.
-abbrev pub IsReadable : MachineKind → Type 0
-IsReadable machine = IsUncached machine
-
 -- Whether the machine has caches and a bus.
 abbrev pub has_bus : MachineKind → Bool
 has_bus Full = true
 has_bus machine = false
 
--- The most ways of a set, by the machine: caches are direct-mapped. Where there are none, the number tells nothing.
-abbrev pub most_ways : MachineKind → ℕ
-most_ways Full = 1
-most_ways machine = 8
-
--- The header: a machine whose reports are read, and numbers within their limits.
+-- The header: numbers within their limits, and no more ways than the machine may have.
 pub record IsHeader (setup : Setup) : Type 0 where
-  pub machine : IsReadable setup.machine
   pub limits : IsWithinLimits setup
   pub ways : setup.ways ≤ most_ways setup.machine
   pub seed : IsWord setup.seed

@@ -3,9 +3,9 @@
 
 ghost use Rattle.std.specs.Prelude.{◌≡◌, ◌<◌, ◌≤◌, [], length, slice_index_or};
 ghost use Rattle.report_rows.specs.Names.{count_names};
-ghost use Rattle.report_rows.specs.Bounds.{has_bus, most_ways, most_rows};
+ghost use Rattle.report_rows.specs.Bounds.{has_bus, most_rows};
 
-use kmp_base::{MOST_BUDGET, MOST_WAYS, MachineKind};
+use kmp_base::{MOST_BUDGET, MachineKind};
 
 /// A word of memory, and the address of its first byte.
 #[derive(Clone, Copy, Debug, PartialEq, Eq)]
@@ -28,17 +28,6 @@ pub fn has_bus(machine: MachineKind) -> bool
     ensures bus { result ≡ has_bus machine }
 {
     machine == MachineKind::Full
-}
-
-/// The most ways of a set of a cache: caches are direct-mapped. Where there are none, the number tells nothing.
-pub fn most_ways(machine: MachineKind) -> u32
-    ensures most { result ≡ most_ways machine }
-    ensures few { result ≤ 8 }
-{
-    match machine {
-        MachineKind::Plain | MachineKind::Pipe => MOST_WAYS,
-        MachineKind::Full => 1,
-    }
 }
 
 /// How many rows the timetable of a core may have: an unpipelined core has none.

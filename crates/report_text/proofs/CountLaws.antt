@@ -1,6 +1,5 @@
 -- What is counted of the items is counted of their entries.
-use Rattle.std.proofs.Common.{◌≡◌, ℕ, ◌+◌, Bool, false, List, [], ◌∷◌, ◌++◌, length, Option, None, Some, refl, sym, ◌∙◌, ap, cond}
-use Rattle.std.specs.Prelude.{replicate}
+use Rattle.std.proofs.Common.{◌≡◌, ◌+◌, Bool, List, [], ◌∷◌, length, Option, None, Some, refl, sym, ◌∙◌, ap, cond}
 use Rattle.std.specs.List.{count_by}
 use Rattle.std_laws.proofs.ListLaws.{count_by-cons}
 use Rattle.access_log.specs.declared.Entry.{Entry}
@@ -9,9 +8,9 @@ use Rattle.access_log.specs.declared.Item.{Item}
 use Rattle.access_log.specs.declared.Item.TheVariants.{Done, Bus}
 use Rattle.access_log.specs.Items.{entries, transactions}
 use Rattle.letters.specs.Caches.{Caches}
-use Rattle.letters.specs.Fold.{LettersValue, no_letters, after_entry}
+use Rattle.letters.specs.Fold.{LettersValue, after_entry}
 use Rattle.report_rows.specs.Ends.{EndValue}
-use Rattle.report_text.specs.Counts.{is_upgrade, is_flush, count_transactions, access_counts_of, bus_counts_of, wait_counts_of}
+use Rattle.report_text.specs.Counts.{count_transactions}
 use Rattle.report_text.specs.Counts.{counts_of, at_entry}
 
 pub length-counts_of : (caches : Option Caches) (cores : List EndValue) (items : List Item) → length (counts_of caches cores items) ≡ 13
@@ -26,18 +25,6 @@ none_counted : (caches : Caches) (test : LettersValue → Transaction → Bool) 
 none_counted caches test letters [] none = refl
 none_counted caches test letters (Done entry ∷ items) none = none_counted caches test (after_entry letters entry) items none
 none_counted caches test letters (Bus bus ∷ items) none = absurd cc
-
-no_bus_counts : (caches : Option Caches) (items : List Item) → transactions items ≡ [] → replicate 5 0 ≡ bus_counts_of caches items
-no_bus_counts None items none = refl
-no_bus_counts (Some caches) items none =
-    rw (none, none_counted caches is_upgrade no_letters items none, none_counted caches is_flush no_letters items none) refl
-
--- the counts tell nothing of caches that made no transaction
-pub counts_without : (caches : Option Caches) (cores : List EndValue) (items : List Item) → transactions items ≡ []
-    → counts_of None cores items ≡ counts_of caches cores items
-unfolding counts_of
-counts_without caches cores items none =
-    ap (λ (bus : List ℕ). access_counts_of cores (entries items) ++ bus ++ wait_counts_of cores) (no_bus_counts caches items none)
 
 -- ---- the entries
 

@@ -77,6 +77,82 @@ fn a_report_is_collected(rt: HostRuntime) -> Result<(), Fail> {
     Ok(())
 }
 
+/// Whether a text is read as a report, and printed again as it was.
+fn is_read_back(alloc: Global, text: &[u8]) -> Result<bool, NoMemory>
+    requires short { length text.now ≤ 4096 }
+{
+    let Ok(read) = read_report(alloc, text) else {
+        return Ok(false);
+    };
+    let (is_put, held) = put_until(alloc, &read, 1000)?;
+    Ok(is_put && held.as_slice() == text)
+}
+
+/// The report of a core with caches of one line a set: a line that it stored to makes room for another.
+const EVICTED: &str = "\
+kmp-report 1
+machine full
+cores 1
+budget 20000
+arbitration fifo
+turns round
+seed 0
+sets 4
+ways 1
+image 128
+I 4b4d50310020000008000000010000000000083c0001083507000924000009ad
+I 20000a8d40000b8d00000c8d0d00000000010000120000000000000000000000
+I 0000000000000000000000000000000000000000000000000000000000000000
+I 0000000000000000000000000000000000000000000000000000000000000000
+B 0 0 0 0000 - - E
+B 0 1 0 0000 - - E
+B 0 2 0 0000 - - E
+B 1 32 1 0000 - - M
+A 0 3 sw 00000100 00000000 00000007
+B 0 3 0 0000 - - E
+B 1 36 0 0000 - 32 E
+A 0 4 lw 00000120 00000000 -
+B 1 40 0 0000 - 36 E
+A 0 5 lw 00000140 00000000 -
+B 1 32 0 0000 - 40 E
+A 0 6 lw 00000100 00000007 -
+C 0 halt 17 7 00000020 0000001c
+R 0 0 00000000 00000000 00000000 00000000 00000000 00000001 00000000 00000000
+R 0 8 00000100 00000007 00000000 00000000 00000007 00000000 00000000 00000000
+R 0 16 00000000 00000000 00000000 00000000 00000000 00000000 00000000 00000000
+R 0 24 00000000 00000000 00000000 00000000 00000000 00000000 00000000 00000000
+W 00000100 00000007
+T 0 0 2 2 3 4 - 5 6
+T 0 1 3 3 4 5 - 6 7
+T 0 2 5 5 6 7 - 8 9
+T 0 3 6 6 7 8 10 10 11
+T 0 4 8 8 9 10 12 12 13
+T 0 5 9 9 10 12 14 14 15
+T 0 6 11 11 12 14 16 16 17
+T 0 7 12 12 14 16 - 17 -
+N retired 7
+N loads 3
+N stores 1
+N cas 0
+N swapped 0
+N transactions 8
+N exclusive 1
+N owned 0
+N upgrades 0
+N flushes 1
+N wait-fetch 4
+N wait-operand 0
+N wait-access 4
+end
+";
+
+/// The report of a machine with caches has rows of transactions, and is read.
+#[test]
+fn transactions_are_read(rt: HostRuntime) -> Result<(), Fail> {
+    assert!(rt; is_read_back(rt.alloc(), EVICTED.as_bytes())?);
+    Ok(())
+}
+
 /// A row of a timetable, by the first stages, the access, and the last stages.
 fn timed([i, f, d, e]: [u32; 4], a: Option<u32>, m: u32, w: Option<u32>) -> TimeRow {
     TimeRow {
@@ -177,12 +253,7 @@ fn timetables_have_their_rows(rt: HostRuntime) -> Result<(), Fail> {
     let (is_put, held) = put_until(rt.alloc(), &report, 1000)?;
     assert!(rt; is_put);
     assert!(rt; held.as_slice() == TIMED.as_bytes());
-    let Ok(read) = read_report(rt.alloc(), TIMED.as_bytes()) else {
-        return Err(Fail::new("not read"));
-    };
-    let (is_put, held) = put_until(rt.alloc(), &read, 1000)?;
-    assert!(rt; is_put);
-    assert!(rt; held.as_slice() == TIMED.as_bytes());
+    assert!(rt; is_read_back(rt.alloc(), TIMED.as_bytes())?);
     Ok(())
 }
 

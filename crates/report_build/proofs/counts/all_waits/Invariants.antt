@@ -2,7 +2,7 @@ use Rattle.std.proofs.Common.{◌≡◌, ◌*◌, ◌≤◌, take}
 use Rattle.std.specs.List.{sum_by}
 use Rattle.timetable.specs.declared.CoreEnd.{CoreEnd}
 use Rattle.timetable.specs.Waits.{fetch_waits, operand_waits, access_waits}
-use Rattle.report_build.proofs.build.all_waits.Given as goal
+use Rattle.report_build.proofs.counts.all_waits.Given as goal
 
 abbrev pub invariant-loop-ended : goal.invariant-loop-ended
 invariant-loop-ended l = record {

@@ -2,7 +2,7 @@ use Rattle.std.proofs.Common.{◌≡◌, take}
 use Rattle.std.specs.List.{count_by}
 use Rattle.mips_isa.specs.declared.Kind.TheVariants.{Lw, Sw, Cas}
 use Rattle.report_text.specs.Counts.{is_of_kind, is_swap, at_entry}
-use Rattle.report_build.proofs.build.count_accesses.Given as goal
+use Rattle.report_build.proofs.counts.count_accesses.Given as goal
 
 abbrev pub invariant-loop-item : goal.invariant-loop-item
 invariant-loop-item l = record {

@@ -3,7 +3,7 @@ use Rattle.std.proofs.lemmas.List.{take_all}
 use Rattle.mips_isa.specs.declared.Kind.TheVariants.{Lw, Sw, Cas}
 use Rattle.report_text.specs.Counts.{is_of_kind, is_swap}
 use Rattle.report_text.proofs.CountLaws.{count_by_at_entry}
-use Rattle.report_build.proofs.build.count_accesses.Goals as goal
+use Rattle.report_build.proofs.counts.count_accesses.Goals as goal
 
 pub returns : goal.returns
 returns c =
