@@ -157,5 +157,6 @@ module _ (budget : ℕ) (m : MemoryView) (ends : List CoreEnd) (count : length e
     replays = interleaving m.image.code (start_memory m.image) (start_states m.image m.cores) (entries items) retired finals words
         (interleaves words items lawful settles);
     follows = settles.follows;
+    lines = settles.lines;
     ends = λ core ended got. (done core ended got).fits;
   }

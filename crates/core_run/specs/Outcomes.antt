@@ -14,7 +14,7 @@ use Rattle.timetable.specs.declared.CoreEnd.{CoreEnd}
 use Rattle.timetable.specs.declared.rows.TimeRow.{TimeRow}
 use Rattle.timetable.specs.Outcome.{OutcomeValue, final_of}
 use Rattle.mem_port.specs.Loaded.{stop}
-use Rattle.mem_port.specs.Memory.{MemoryView, IsAtOnce}
+use Rattle.mem_port.specs.Memory.{MemoryView, AreOnLines, IsAtOnce}
 use Rattle.mem_port.specs.Engine.{EngineView}
 use Rattle.mem_port.specs.ServiceHistory.{ServiceHistory}
 use Rattle.mem_port.specs.Side.{side_of}
@@ -48,6 +48,7 @@ pub record IsRun (image : ImageValue) (cores budget : ℕ) (caches : Option Cach
       (map (λ (ended : CoreEnd). ended.retired) outcome.cores)
       ≡ Some (record { code = image.code; cores = map final_of outcome.cores; memory = outcome.words })
   pub follows : Follows caches cores (code_lines image) outcome.items
+  pub lines : AreOnLines image outcome.items
   pub ends : (core : ℕ) (ended : CoreEnd) → slice_get outcome.cores core ≡ Some ended
       → EndFits ended.end budget ended.cycles (stop image ended.state)
 

@@ -2,8 +2,8 @@
 ghost use Rattle.std.specs.Prelude.{◌≡◌, ℕ, ◌*◌, ◌<◌, ◌≤◌, [], Some, length, slice_get, vec_len, vec_capacity, IfOk};
 ghost use Rattle.std.specs.List.{AllByRecursion};
 ghost use Rattle.kmp_base.specs.Limits.{IsWithinLimits};
-ghost use Rattle.kmp_base.specs.Machines.{IsUncached};
-ghost use Rattle.access_log.specs.Items.{entries};
+ghost use Rattle.kmp_base.specs.Machines.{most_ways};
+ghost use Rattle.access_log.specs.Items.{entries, transactions};
 ghost use Rattle.right_run.specs.Right.{IsRight, caches_of};
 ghost use Rattle.right_run.specs.Turns.{AreInTurns, IsInTurns, cycles_of, tables_of};
 ghost use Rattle.mem_port.specs.Memory.{IsFresh};
@@ -17,6 +17,7 @@ use crate::{CoreSlot, NoMemory, Plain, TimedEngine, pipe_slots, run_seeded, run_
 use image_file::Image;
 use kmp_base::{MachineKind, Setup, Turns};
 use mem_port::{CoreEngine, FlatMemory, MemoryCore};
+use mem_system::MemSystem;
 use std::alloc::Global;
 use timetable::{CoreEnd, Outcome};
 
@@ -87,6 +88,7 @@ pub fn run_piped<M: MemoryCore>(
     ensures cores { IfOk result (λ outcome. length outcome.cores ≡ setup.now.cores) }
     ensures words { IfOk result (λ outcome. length outcome.words ≡ 2 * image.now.memory_lines) }
     ensures within { IfOk result (λ outcome. AllByRecursion (λ entry. entry.core < setup.now.cores) (entries outcome.items)) }
+    ensures lines { IfOk result (λ outcome. AllByRecursion (λ bus. bus.line < image.now.memory_lines) (transactions outcome.items)) }
 {
     let ends = Vec::with_capacity(alloc, setup.cores as usize)?;
     let slots = pipe_slots(alloc, image, setup.cores, setup.budget)?;
@@ -96,13 +98,14 @@ pub fn run_piped<M: MemoryCore>(
 /// Runs an image to the ends of its cores, in turns. All memory is taken before the first cycle.
 pub fn run_serial(alloc: Global, image: &Image, setup: &Setup) -> Result<Outcome, NoMemory>
     requires limits { IsWithinLimits setup.now }
-    requires uncached { IsUncached setup.now.machine }
+    requires ways { setup.now.ways ≤ most_ways setup.now.machine }
     requires serial { IsSerial setup.now.turns }
     ensures right { IfOk result (IsRight setup.now image.now) }
     ensures turns { IfOk result (λ outcome. IsInTurns setup.now (cycles_of outcome.cores) (tables_of outcome.cores) (entries outcome.items)) }
     ensures cores { IfOk result (λ outcome. length outcome.cores ≡ setup.now.cores) }
     ensures words { IfOk result (λ outcome. length outcome.words ≡ 2 * image.now.memory_lines) }
     ensures within { IfOk result (λ outcome. AllByRecursion (λ entry. entry.core < setup.now.cores) (entries outcome.items)) }
+    ensures lines { IfOk result (λ outcome. AllByRecursion (λ bus. bus.line < image.now.memory_lines) (transactions outcome.items)) }
 {
     match setup.machine {
         MachineKind::Plain => {
@@ -115,6 +118,9 @@ pub fn run_serial(alloc: Global, image: &Image, setup: &Setup) -> Result<Outcome
             let flat = FlatMemory::new(alloc, image, setup.cores, setup.budget)?;
             run_piped(alloc, flat, image, setup)
         }
-        MachineKind::Full => unreachable!(),
+        MachineKind::Full => {
+            let cached = MemSystem::new(alloc, image, setup.cores, setup.sets, setup.budget)?;
+            run_piped(alloc, cached, image, setup)
+        }
     }
 }

@@ -2,9 +2,9 @@
 ghost use Rattle.std.specs.Prelude.{◌≡◌, ◌≤◌, ◌<◌, ◌*◌, ◌^◌, ℕ, Some, slice_get, vec_len, length, map, IfOk};
 ghost use Rattle.std.specs.List.{AllByRecursion};
 ghost use Rattle.kmp_base.specs.Limits.{IsWithinLimits};
-ghost use Rattle.kmp_base.specs.Machines.{IsUncached};
+ghost use Rattle.kmp_base.specs.Machines.{most_ways};
 ghost use Rattle.kmp_base.specs.declared.setup.Turns.TheVariants as turns;
-ghost use Rattle.access_log.specs.Items.{entries};
+ghost use Rattle.access_log.specs.Items.{entries, transactions};
 ghost use Rattle.right_run.specs.Right.{IsRight, caches_of};
 ghost use Rattle.right_run.specs.Turns.{IsInTurns, cycles_of, tables_of};
 ghost use Rattle.mem_port.specs.Memory.{IsFresh, IsAtOnce};
@@ -20,6 +20,7 @@ use core_run::{CoreSlot, TimedEngine, pipe_slots, plain_slots};
 use image_file::Image;
 use kmp_base::{MachineKind, Setup};
 use mem_port::{FlatMemory, MemoryCore};
+use mem_system::MemSystem;
 use std::alloc::Global;
 use std::sync::Wait;
 use std::thread::Threads;
@@ -128,6 +129,7 @@ pub fn run_piped<R: Threads + Wait + Sync, M: MemoryCore + Send, G: Gate + Sync>
     ensures cores { IfOk result (λ outcome. length outcome.cores ≡ setup.now.cores) }
     ensures words { IfOk result (λ outcome. length outcome.words ≡ 2 * image.now.memory_lines) }
     ensures within { IfOk result (λ outcome. AllByRecursion (λ entry. entry.core < setup.now.cores) (entries outcome.items)) }
+    ensures lines { IfOk result (λ outcome. AllByRecursion (λ bus. bus.line < image.now.memory_lines) (transactions outcome.items)) }
 {
     let slots = pipe_slots(alloc, image, setup.cores, setup.budget)?;
     let outcome = run_slots(rt, alloc, memory, slots, setup.budget, gate)?;
@@ -144,13 +146,14 @@ pub fn run_threads<R: Threads + Wait + Sync, G: Gate + Sync>(
     gate: &G,
 ) -> Result<Outcome, NoMemory>
     requires limits { IsWithinLimits setup.now }
-    requires uncached { IsUncached setup.now.machine }
+    requires ways { setup.now.ways ≤ most_ways setup.now.machine }
     requires threads { setup.now.turns ≡ turns.Threads }
     ensures right { IfOk result (IsRight setup.now image.now) }
     ensures turns { IfOk result (λ outcome. IsInTurns setup.now (cycles_of outcome.cores) (tables_of outcome.cores) (entries outcome.items)) }
     ensures cores { IfOk result (λ outcome. length outcome.cores ≡ setup.now.cores) }
     ensures words { IfOk result (λ outcome. length outcome.words ≡ 2 * image.now.memory_lines) }
     ensures within { IfOk result (λ outcome. AllByRecursion (λ entry. entry.core < setup.now.cores) (entries outcome.items)) }
+    ensures lines { IfOk result (λ outcome. AllByRecursion (λ bus. bus.line < image.now.memory_lines) (transactions outcome.items)) }
 {
     match setup.machine {
         MachineKind::Plain => {
@@ -163,6 +166,9 @@ pub fn run_threads<R: Threads + Wait + Sync, G: Gate + Sync>(
             let flat = FlatMemory::new(alloc, image, setup.cores, setup.budget)?;
             run_piped(rt, alloc, flat, image, setup, gate)
         }
-        MachineKind::Full => unreachable!(),
+        MachineKind::Full => {
+            let cached = MemSystem::new(alloc, image, setup.cores, setup.sets, setup.budget)?;
+            run_piped(rt, alloc, cached, image, setup, gate)
+        }
     }
 }

@@ -3,11 +3,15 @@
 
 mod answers;
 #[cfg(test)]
+mod checks;
+#[cfg(test)]
 mod cores;
 #[cfg(test)]
 mod cycles;
 #[cfg(test)]
 mod eager;
+#[cfg(test)]
+mod full;
 #[cfg(test)]
 mod histories;
 #[cfg(test)]

@@ -1,11 +1,12 @@
-//! Two cores whose requests wait one behind the other.
-ghost use Rattle.std.specs.Prelude.{◌≡◌, ◌<◌, length, IfOk};
+//! Two cores whose requests wait one behind the other: in a queue round flat memory, and for the bus.
+ghost use Rattle.std.specs.Prelude.{◌≡◌, ◌<◌, ◌≤◌, length, IfOk};
 ghost use Rattle.mips_isa.specs.Steps.{IsAccess};
 ghost use Rattle.machine_tests.specs.Script.{Fits};
 
 use access_log::{Item, Request};
 use image_file::{Image, read_image};
 use mem_port::{FlatMemory, MemoryCore, Moved, Port, PortState, Withdrawal};
+use mem_system::MemSystem;
 use mips_isa::Kind;
 use queued_memory::QueuedMemory;
 use std::alloc::Global;
@@ -122,6 +123,15 @@ impl<M: MemoryCore> Script<M> {
     }
 }
 
+impl Script<MemSystem<'_>> {
+    /// What main memory has at the address, whatever the caches hold.
+    fn main_word(&self) -> u32
+        requires fits { Fits self.now.made self.now.left (⟦<MemSystem<'static> as MemoryCore>⟧.view self.now.memory) }
+    {
+        self.memory.in_memory(ADDR / 8)[0]
+    }
+}
+
 /// The answer of a request that was done when it was withdrawn.
 fn answer_in(withdrawal: Withdrawal) -> Option<u32> {
     match withdrawal {
@@ -152,6 +162,55 @@ fn start<'a>(alloc: Global, image: &'a Image) -> Result<Script<QueuedMemory<Flat
         made: [PortState::Free; 2],
         left: 10,
     })
+}
+
+/// A memory with caches of so many sets, in which each core may ask ten times.
+fn start_caches<'a>(
+    alloc: Global,
+    image: &'a Image,
+    sets: u32,
+) -> Result<Script<MemSystem<'a>>, Fail>
+    requires some_sets { 1 ≤ sets }
+    requires code { length image.now.code ≡ 2 }
+    requires lines { image.now.memory_lines ≡ 8192 }
+    ensures fits { IfOk result (λ script. Fits script.made script.left (⟦<MemSystem<'static> as MemoryCore>⟧.view script.memory)) }
+{
+    Ok(Script {
+        memory: MemSystem::new(alloc, image, 2, sets, 10)?,
+        made: [PortState::Free; 2],
+        left: 10,
+    })
+}
+
+/// A store waits for the only copy, and the load behind it for the words of that; the next load is a hit. Main memory keeps the
+/// word that it had.
+fn check_copies(rt: &impl Abort, script: &mut Script<MemSystem<'_>>)
+    requires fits { Fits script.old.made script.old.left (⟦<MemSystem<'static> as MemoryCore>⟧.view script.old.memory) }
+{
+    script.send(rt, 0, Kind::Sw, 7);
+    script.send(rt, 1, Kind::Lw, 0);
+    assert!(rt; script.take(rt, 0).is_none());
+    script.steps(rt, 1, 0);
+    assert!(rt; script.take(rt, 0) == Some(0));
+    assert!(rt; script.take(rt, 1).is_none());
+    script.steps(rt, 1, 1);
+    assert!(rt; !script.step(0));
+    assert!(rt; script.take(rt, 1) == Some(7));
+    script.send(rt, 0, Kind::Lw, 0);
+    assert!(rt; script.take(rt, 0) == Some(7));
+    assert!(rt; script.main_word() == 0);
+}
+
+/// A request that is given up leaves the queue, and the one behind it is moved next.
+fn check_given_up(rt: &impl Abort, script: &mut Script<MemSystem<'_>>)
+    requires fits { Fits script.old.made script.old.left (⟦<MemSystem<'static> as MemoryCore>⟧.view script.old.memory) }
+{
+    script.send(rt, 0, Kind::Sw, 7);
+    script.send(rt, 1, Kind::Lw, 0);
+    assert!(rt; script.withdraw(rt, 0).is_none());
+    script.steps(rt, 1, 0);
+    assert!(rt; script.take(rt, 1) == Some(0));
+    assert!(rt; !script.step(0));
 }
 
 /// Each request is answered when it was the first one for eleven steps.
@@ -229,5 +288,13 @@ fn requests_wait_in_a_queue(rt: HostRuntime) -> Result<(), Fail> {
     check_next(&rt, &mut start(rt.alloc(), &image)?);
     check_overtakes(&rt, &mut start(rt.alloc(), &image)?);
     check_ends(&rt, start(rt.alloc(), &image)?);
+    Ok(())
+}
+
+#[test]
+fn requests_wait_for_the_bus(rt: HostRuntime) -> Result<(), Fail> {
+    let image = halt(&rt, rt.alloc())?;
+    check_copies(&rt, &mut start_caches(rt.alloc(), &image, 4)?);
+    check_given_up(&rt, &mut start_caches(rt.alloc(), &image, 1)?);
     Ok(())
 }

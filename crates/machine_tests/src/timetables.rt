@@ -46,13 +46,14 @@ fn run<R: Threads + Wait + Sync>(
 }
 
 /// I, F, D, E, A, M and W.
-type Cycles = (u32, u32, u32, u32, Option<u32>, u32, Option<u32>);
+pub type Cycles = (u32, u32, u32, u32, Option<u32>, u32, Option<u32>);
 
 fn is_row(row: TimeRow, cycles: &Cycles) -> bool {
     (row.i, row.f, row.d, row.e, row.a, row.m, row.w) == *cycles
 }
 
-fn are_rows(rows: &Rows, cycles: &[Cycles]) -> bool {
+/// Whether a timetable has these rows.
+pub fn are_rows(rows: &Rows, cycles: &[Cycles]) -> bool {
     rows.len() as usize == cycles.len()
         && (0..rows.len()).zip(cycles).all(|(nth, expected)| rows
             .get(nth)

@@ -38,3 +38,9 @@ returns-clause-words g c =
     c.run_in_turns.ensures.run in
     let good = subst IsGood c.requires.fresh.image_is c.requires.fresh.lawful.good in
     run.words ∙ length-start_memory image good
+
+pub returns-clause-lines : goal.returns-clause-lines
+returns-clause-lines g c =
+    let setup = c.args.setup.now in
+    (run-fresh c.args.image.now setup.cores setup.budget (caches_of setup) _ c.run_in_turns.result c.requires.fresh
+    c.run_in_turns.ensures.run).lines

@@ -35,3 +35,7 @@ returns-in_ok-slots-in-Plain-clause-turns c =
 pub returns-in_ok-slots-in-Plain-clause-within : goal.returns-in_ok-slots-in-Plain-clause-within
 returns-in_ok-slots-in-Plain-clause-within c = (run-fresh c.args.image.now c.args.setup.now.cores c.args.setup.now.budget None _
     c.run_in_turns.result c.in_ok-memory-in-Plain.ensures.fresh c.run_in_turns.ensures.run).within
+
+pub returns-in_ok-slots-in-Plain-clause-lines : goal.returns-in_ok-slots-in-Plain-clause-lines
+returns-in_ok-slots-in-Plain-clause-lines c = (run-fresh c.args.image.now c.args.setup.now.cores c.args.setup.now.budget None _
+    c.run_in_turns.result c.in_ok-memory-in-Plain.ensures.fresh c.run_in_turns.ensures.run).lines

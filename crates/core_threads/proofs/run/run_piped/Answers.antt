@@ -34,3 +34,9 @@ returns-clause-words g c =
 
 pub returns-clause-turns : goal.returns-clause-turns
 returns-clause-turns g c = in-threads c.args.setup.now _ _ _ c.requires.threads
+
+pub returns-clause-lines : goal.returns-clause-lines
+returns-clause-lines g c =
+    let setup = c.args.setup.now in
+    (run-fresh c.args.image.now setup.cores setup.budget (caches_of setup) _ c.in_ok-outcome.outcome c.requires.fresh
+    c.in_ok-outcome.ensures.run).lines

@@ -21,3 +21,7 @@ returns-in_ok-outcome-in-Plain-clause-right g c =
 pub returns-in_ok-outcome-in-Plain-clause-within : goal.returns-in_ok-outcome-in-Plain-clause-within
 returns-in_ok-outcome-in-Plain-clause-within g c = (run-fresh c.args.image.now c.args.setup.now.cores c.args.setup.now.budget None _
     c.in_ok-outcome-in-Plain.outcome c.in_ok-memory-in-Plain.ensures.fresh c.in_ok-outcome-in-Plain.ensures.run).within
+
+pub returns-in_ok-outcome-in-Plain-clause-lines : goal.returns-in_ok-outcome-in-Plain-clause-lines
+returns-in_ok-outcome-in-Plain-clause-lines g c = (run-fresh c.args.image.now c.args.setup.now.cores c.args.setup.now.budget None _
+    c.in_ok-outcome-in-Plain.outcome c.in_ok-memory-in-Plain.ensures.fresh c.in_ok-outcome-in-Plain.ensures.run).lines
