@@ -3,8 +3,6 @@ pub mod CourseLemmas
 pub mod TimetableLemmas
 pub mod CoreLemmas
 pub mod CoresLemmas
-pub mod FlatLemmas
-pub mod EntryLemmas
 pub mod LineLemmas
 pub mod TablesLemmas
 pub mod OnlyLaws

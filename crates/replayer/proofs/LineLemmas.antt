@@ -16,7 +16,7 @@ use Rattle.report_rows.specs.Rows.{wait_count_rows, timed_row, rows_of_each, tim
 use Rattle.report_text.specs.Report.{ReportValue}
 use Rattle.report_text.specs.Text.{image_rows, rows_of_cores, rows_of_timetables, count_rows, run_rows, outcome_rows}
 use Rattle.report_text.specs.Text.{report_rows, report_text}
-use Rattle.replayer.specs.Outcome.{entries_line, cores_line, words_line, timetables_line, counts_line}
+use Rattle.replayer.specs.Outcome.{history_line, cores_line, words_line, timetables_line, counts_line}
 
 -- ---- a row has a byte at least
 
@@ -83,11 +83,11 @@ length-counts counts = refl
 
 -- ---- the lines
 
-pub entries_line_is : (report : ReportValue) → entries_line report ≡ 11 + (length (image_bytes report.image) + 31) / 32
-entries_line_is report =
+pub history_line_is : (report : ReportValue) → history_line report ≡ 11 + (length (image_bytes report.image) + 31) / 32
+history_line_is report =
     omega (arith, length-append (header_rows report.setup) (image_rows report.image), length-header report.setup, length-image report.image)
 
-pub cores_line_is : (report : ReportValue) → cores_line report ≡ entries_line report + length report.items
+pub cores_line_is : (report : ReportValue) → cores_line report ≡ history_line report + length report.items
 cores_line_is report =
     omega (
       arith,

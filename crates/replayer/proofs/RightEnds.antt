@@ -1,7 +1,7 @@
 -- No judgment of a core's rows differs exactly where it ended by its timing, in the state that is due.
 use Rattle.std.proofs.Common.{◌≡◌, ℕ, ◌+◌, ◌<◌, ◌≤◌, true, List, length, refl, sym, ap, ◌∙◌}
-use Rattle.std.specs.Prelude.{Some, nat_le, nat_lt}
-use Rattle.std.proofs.lemmas.Bool.{eqb-true, eq-eqb, and_parts, and_from, leb-true, le-leb, lt-leb, ltb-true, lt-ltb}
+use Rattle.std.specs.Prelude.{Option, Some, None, IfSome, nat_le}
+use Rattle.std.proofs.lemmas.Bool.{eqb-true, eq-eqb, and_parts, and_from, leb-true, le-leb, ltb-true, lt-ltb}
 use Rattle.std.proofs.lemmas.Option.{same_Some}
 use Rattle.std_laws.proofs.ListLaws.{AllByRecursion-append, AllByRecursion-parts}
 use Rattle.kmp_base.specs.declared.setup.Setup.{Setup}
@@ -20,21 +20,33 @@ use Rattle.row_check.specs.Judgments.{is_same_end, is_same_optional}
 use Rattle.row_check.proofs.JudgmentLaws.{Agree, Agrees, stop_is, stop_same, optional_is, optional_same}
 use Rattle.replayer.specs.declared.ends.Timing.{Timing}
 use Rattle.replayer.specs.Lists.{registers_judged}
-use Rattle.replayer.specs.Cores.{due_end, may_be_spent, due_cycles, timing_on, end_judged, core_judged}
+use Rattle.replayer.specs.Cores.{may_be_beyond, due_end, may_be_spent, due_cycles, timing_on, end_judged, core_judged}
 use Rattle.replayer.proofs.RightJudgments.{registers_same, registers_agree}
 use Rattle.replayer.proofs.RightCores.{core_of}
 
+-- where its cycle is told, it is beyond the budget
+abbrev pub IsLate : ℕ → Option ℕ → Type 0
+IsLate budget done = IfSome done (λ cycle. budget < cycle)
+
 -- Stopped: this stop comes next, and it took the cycles. Spent: all cycles of the budget are gone, no more were used, and what comes
--- next would not be done within them.
+-- next would not be done within them, where that is told.
 abbrev pub EndsBy : End → ℕ → ℕ → Timing → Next → Type 0
 EndsBy (Stopped stop) budget cycles timing next = (next ≡ Stops stop) × (timing.stopped ≡ Some cycles)
-EndsBy Spent budget cycles timing next = (cycles ≡ budget) × (timing.used ≤ budget) × (budget < timing.done)
+EndsBy Spent budget cycles timing next = (cycles ≡ budget) × (timing.used ≤ budget) × IsLate budget timing.done
 
 -- an end, judged
 record EndAgrees (budget cycles : ℕ) (timing : Timing) (kept : End) (next : Next) : Type 0 where
   pub end : is_same_end kept (due_end budget timing.done kept next) ≡ true
   pub allowed : may_be_spent budget timing kept ≡ true
   pub cycles_are : is_same_optional (Some cycles) (due_cycles budget timing.stopped kept) ≡ true
+
+late : (budget : ℕ) (done : Option ℕ) → may_be_beyond budget done ≡ true → IsLate budget done
+late budget None may = tt
+late budget (Some cycle) may = ltb-true budget cycle may
+
+may_be : (budget : ℕ) (done : Option ℕ) → IsLate budget done → may_be_beyond budget done ≡ true
+may_be budget None late = refl
+may_be budget (Some cycle) late = lt-ltb budget cycle late
 
 ends_by : (budget cycles : ℕ) (timing : Timing) (kept : End) (next : Next) → EndAgrees budget cycles timing kept next
     → EndsBy kept budget cycles timing next
@@ -43,16 +55,17 @@ ends_by budget cycles timing (Stopped stop) (Stops due) h =
 ends_by budget cycles timing (Stopped stop) (Goes state) h = (let e = h.end in cc)
 ends_by budget cycles timing (Stopped stop) (Asks access) h = (let e = h.end in cc)
 ends_by budget cycles timing Spent next h =
-    let may = and_parts (nat_le timing.used budget) (nat_lt budget timing.done) h.allowed in (
+    let may = and_parts (nat_le timing.used budget) (may_be_beyond budget timing.done) h.allowed in (
       same_Some cycles budget (optional_is (Some cycles) (Some budget) h.cycles_are),
       leb-true timing.used budget may.0,
-      ltb-true budget timing.done may.1,
+      late budget timing.done may.1,
     )
 
-spent_due : (budget done : ℕ) (next : Next) → budget < done → is_same_end Spent (due_end budget done Spent next) ≡ true
-spent_due budget done (Stops stop) late = rw (lt-leb done budget late) refl
-spent_due budget done (Goes state) late = refl
-spent_due budget done (Asks access) late = refl
+spent_due : (budget : ℕ) (done : Option ℕ) (next : Next) → may_be_beyond budget done ≡ true
+    → is_same_end Spent (due_end budget done Spent next) ≡ true
+spent_due budget cycle (Stops stop) may = rw may refl
+spent_due budget cycle (Goes state) may = refl
+spent_due budget cycle (Asks access) may = refl
 
 end_agrees : (budget cycles : ℕ) (timing : Timing) (kept : End) (next : Next) → EndsBy kept budget cycles timing next
     → EndAgrees budget cycles timing kept next
@@ -62,9 +75,9 @@ end_agrees budget cycles timing (Stopped stop) next by = record {
   cycles_are = optional_same (Some cycles) timing.stopped (sym by.1);
 }
 end_agrees budget cycles timing Spent next by = record {
-  end = spent_due budget timing.done next by.2;
-  allowed = and_from (nat_le timing.used budget) (nat_lt budget timing.done) (le-leb timing.used budget by.1)
-      (lt-ltb budget timing.done by.2);
+  end = spent_due budget timing.done next (may_be budget timing.done by.2);
+  allowed = and_from (nat_le timing.used budget) (may_be_beyond budget timing.done) (le-leb timing.used budget by.1)
+      (may_be budget timing.done by.2);
   cycles_are = optional_same (Some cycles) (Some budget) (ap (λ n. Some n) by.0);
 }
 

@@ -1,30 +1,25 @@
--- A report is right exactly where its accesses are those that the sequential machine makes, and no row behind them differs.
-use Rattle.std.proofs.Common.{◌≡◌, ℕ, ◌+◌, ◌*◌, List, [], ◌∷◌, ◌++◌, length, refl, sym, ap, ◌∙◌, subst, arith, inl, inr}
+-- A report is right exactly where its history is, and no row behind it differs.
+use Rattle.std.proofs.Common.{◌≡◌, ℕ, ◌+◌, ◌*◌, List, [], ◌∷◌, ◌++◌, length, refl, sym, ap, ◌∙◌, subst, arith}
 use Rattle.std.specs.Prelude.{Some, None, map, slice_get}
 use Rattle.std.specs.Option.{option_map, option_and_then}
-use Rattle.std.specs.List.{AllByRecursion}
 use Rattle.std.proofs.lemmas.List.{length-map}
 use Rattle.std.proofs.lemmas.Option.{slice_get-map}
 use Rattle.std.proofs.lemmas.Simd.{map-map}
 use Rattle.std_laws.proofs.OptionLaws.{option_and_then_parts, option_map_parts}
 use Rattle.std_laws.proofs.ListLaws.{AllByRecursion-append, AllByRecursion-parts, AllByRecursion-slice_get}
-use Rattle.kmp_base.specs.declared.setup.Setup.{Setup}
-use Rattle.kmp_base.specs.declared.setup.MachineKind.{MachineKind}
-use Rattle.kmp_base.specs.declared.setup.MachineKind.TheVariants.{Plain, Pipe, Full}
-use Rattle.kmp_base.specs.Machines.{IsUncached}
 use Rattle.image_file.specs.Value.{ImageValue, start_memory, start_states}
 use Rattle.image_file.specs.Value as images
 use Rattle.access_log.specs.declared.Core.{Core}
 use Rattle.access_log.specs.declared.Entry.{Entry}
 use Rattle.access_log.specs.declared.Item.{Item}
-use Rattle.access_log.specs.declared.Item.TheVariants.{Done, Bus}
-use Rattle.access_log.specs.Items.{entries, transactions}
+use Rattle.access_log.specs.Items.{entries}
 use Rattle.access_log.specs.Replay.{FlatMachine, memory_bytes, entered_all, started, ended, own, replay}
 use Rattle.timetable.specs.declared.CoreEnd.{CoreEnd}
 use Rattle.timetable.specs.Outcome.{OutcomeValue, final_of}
 use Rattle.right_run.specs.Right.{EndsAt, FollowsOn, IsRight, caches_of}
+use Rattle.history_check.specs.History.{HistoryIsRight}
 use Rattle.report_rows.specs.declared.MemoryWord.{MemoryWord}
-use Rattle.report_rows.specs.Bounds.{IsItem, most_rows, IsEnd}
+use Rattle.report_rows.specs.Bounds.{most_rows, IsEnd}
 use Rattle.report_rows.specs.Ends.{EndValue, end_value}
 use Rattle.report_text.specs.Counts.{counts_of}
 use Rattle.report_text.specs.Report.{ReportValue, words_past, report_of}
@@ -45,7 +40,6 @@ use Rattle.replayer.proofs.RightRuns.{all_executed}
 use Rattle.replayer.proofs.RightRows.{AreAsDue, AreRight, retired_of, cores_right, cores_agree, finals_are, due_at, all_due}
 use Rattle.replayer.proofs.RightRows.{tables_parts, tables_agree}
 use Rattle.replayer.proofs.RightImage.{bytes_are}
-use Rattle.replayer.proofs.FlatLemmas.{without_bus, flat_items}
 
 -- ---- what is judged behind the accesses
 
@@ -127,18 +121,6 @@ replay_is report machine made code_is right =
     ∙ ap (λ (cs : List Core). Some (machine_with machine.code cs machine.memory)) finals
     ∙ ap (λ (c : List ℕ). Some (machine_with c (map final_of (map core_end ends)) machine.memory)) code_is
 
-no_bus : (cores bytes : ℕ) (items : List Item) → AllByRecursion (IsItem Plain cores bytes) items → transactions items ≡ []
-no_bus cores bytes [] are = refl
-no_bus cores bytes (Done entry ∷ items) are = no_bus cores bytes items are.1
-no_bus cores bytes (Bus transaction ∷ items) are = absurd (without_bus Plain (inl refl) are.0.0)
-
-follows_on : (machine : MachineKind) (setup : Setup) (image : ImageValue) (items : List Item) → IsUncached machine → transactions items ≡ []
-    → FollowsOn machine setup image items
-follows_on Plain setup image items uncached none = none
-follows_on Pipe setup image items uncached none = none
-follows_on Full setup image items (inl is) none = cc
-follows_on Full setup image items (inr is) none = cc
-
 -- each core ended rightly
 ends_are : (report : ReportValue) (machine : FlatMachine) → IsReport report → Replays report machine
     → AreRight report.setup report.image (entries report.items) machine 0 report.cores machine.cores → Agree (tables report)
@@ -163,8 +145,8 @@ ends_are report machine is run right judged core ended here =
     let end = AllByRecursion-slice_get (IsEnd report.setup.budget (most_rows report.setup.machine)) report.cores core kept.0 is.ends
     kept_here in
     subst (EndsAt report.setup report.image (outcome_of report machine.memory) core) kept.2
-    (ends_on report.setup report.image (outcome_of report machine.memory) core report.setup.machine table.0 kept.0 is.header.machine
-    end.cycles all due (rw e at table.1))
+    (ends_on report.setup report.image (outcome_of report machine.memory) core report.setup.machine table.0 kept.0 end.cycles all due
+    (rw e at table.1))
 
 ends_back : (ends : List EndValue) → map end_value (map core_end ends) ≡ ends
 ends_back [] = refl
@@ -187,22 +169,20 @@ same_report report machine all =
     counted cores = counts_of (caches_of report.setup) cores report.items
 
 pub no_difference_is_right : (report : ReportValue) → IsReport report → (machine : FlatMachine)
-    → entered_all (entries report.items) (machine_of report) ≡ Some machine
+    → HistoryIsRight report.setup report.image report.items (machine_of report) machine
     → first_told (outcome_judged report machine) ≡ None → IsRightReport report
-no_difference_is_right report is machine made none =
+no_difference_is_right report is machine history none =
     let all = all_agree report machine is none in
-    let fits = machine_is report machine made in
+    let fits = machine_is report machine history.made in
     let right = cores_right report.setup report.image (entries report.items) (cores_line report) (most_rows report.setup.machine) machine 0
     report.cores machine.cores (is.cores ∙ sym fits.cores_are) is.ends fits.registers all.cores_so in
-    let run = replay_is report machine made fits.code_is right in
+    let run = replay_is report machine history.made fits.code_is right in
     record {
       outcome = outcome_of report machine.memory;
       right = record {
         replays = run;
         ends = ends_are report machine is run right all.tables_so;
-        follows = follows_on report.setup.machine report.setup report.image report.items is.header.machine
-            (no_bus report.setup.cores (images.memory_bytes report.image) report.items
-            (flat_items report.setup.machine report.setup.cores (images.memory_bytes report.image) report.items is.header.machine is.items));
+        follows = history.follows;
       };
       is = same_report report machine all;
     }
@@ -268,7 +248,7 @@ ends_due report outcome is right few core ended here =
     (machine_with report.image.code (map final_of outcome.cores) outcome.words) (bytes_are report is)
     (length-map outcome.cores (λ (e : CoreEnd). e.retired) ∙ few) right.replays core ended.retired
     (slice_get-map (λ (e : CoreEnd). e.retired) outcome.cores core ∙ ap (option_map (λ (e : CoreEnd). e.retired)) here) in
-    end_as_due report.setup report.image outcome core report.setup.machine ended is.header.machine all (right.ends core ended here)
+    end_as_due report.setup report.image outcome core report.setup.machine ended all (right.ends core ended here)
 
 module _ (report : ReportValue) (outcome : OutcomeValue) (is : IsReport report) (right : IsRight report.setup report.image outcome)
     (told : Tells report outcome) where
@@ -319,7 +299,7 @@ module _ (report : ReportValue) (outcome : OutcomeValue) (is : IsReport report) 
       (counts_agree (counts_line report) report.counts (counts_of (caches_of report.setup) report.cores report.items) told.counts_are))
 
 pub right_has_no_difference : (report : ReportValue) → IsReport report → IsRightReport report
-    → (machine : FlatMachine) × (entered_all (entries report.items) (machine_of report) ≡ Some machine)
+    → (machine : FlatMachine) × HistoryIsRight report.setup report.image report.items (machine_of report) machine
     × (first_told (outcome_judged report machine) ≡ None)
 right_has_no_difference report is right =
     let outcome = right.outcome in
@@ -332,4 +312,5 @@ right_has_no_difference report is right =
     let count : length (map retired_of report.cores) ≡ report.setup.cores = length-map report.cores retired_of ∙ is.cores in
     let by = replays_so report.image report.setup.cores (entries report.items) (map retired_of report.cores) (map final_of outcome.cores)
     outcome.words count run in
-    (by.0, by.1.made, none_in report outcome is right.right told by.0 by.1.caught by.1.words_are)
+    let follows = subst (FollowsOn report.setup.machine report.setup report.image) told.items right.right.follows in
+    (by.0, record { made = by.1.made; follows = follows }, none_in report outcome is right.right told by.0 by.1.caught by.1.words_are)

@@ -1,5 +1,5 @@
 -- By the machine: a core ended rightly exactly where its end is as due, and no row of its timetable differs.
-use Rattle.std.proofs.Common.{◌≡◌, ℕ, ◌+◌, ◌≤◌, List, [], ◌∷◌, length, refl, sym, ap, subst, arith, inl, inr}
+use Rattle.std.proofs.Common.{◌≡◌, ℕ, ◌+◌, ◌≤◌, List, [], ◌∷◌, length, refl, sym, ap, subst, arith}
 use Rattle.std.specs.Prelude.{Option, Some}
 use Rattle.std.specs.Option.{option_map}
 use Rattle.std.proofs.lemmas.List.{nil_from_length}
@@ -7,7 +7,6 @@ use Rattle.std.proofs.lemmas.Option.{same_Some}
 use Rattle.kmp_base.specs.declared.setup.Setup.{Setup}
 use Rattle.kmp_base.specs.declared.setup.MachineKind.{MachineKind}
 use Rattle.kmp_base.specs.declared.setup.MachineKind.TheVariants.{Plain, Pipe, Full}
-use Rattle.kmp_base.specs.Machines.{IsUncached}
 use Rattle.mips_isa.specs.declared.Instr.{Instr}
 use Rattle.mips_isa.specs.declared.Next.{Next}
 use Rattle.image_file.specs.Value.{ImageValue}
@@ -19,22 +18,23 @@ use Rattle.timetable.specs.declared.End.{End}
 use Rattle.timetable.specs.declared.End.TheVariants.{Stopped, Spent}
 use Rattle.timetable.specs.declared.rows.TimeRow.{TimeRow}
 use Rattle.timetable.specs.Recurrence.{last_where}
-use Rattle.timetable.specs.Tables.{Timed}
+use Rattle.timetable.specs.Tables.{Timed, IsTable, past_of}
 use Rattle.timetable.specs.AtOnce.{first_m, past_at_once}
+use Rattle.timetable.specs.Ends.{IsBeyond}
 use Rattle.timetable.specs.Outcome.{OutcomeValue, final_of}
 use Rattle.timetable.specs.Trace.{instr_on}
 use Rattle.right_run.specs.Cycles.{EndsRightly}
-use Rattle.right_run.specs.Stages.{executed_by, EndsInStages}
+use Rattle.right_run.specs.Stages.{executed_by, EndsInStages, IsStagedEnd}
 use Rattle.right_run.specs.Right.{EndsOn}
 use Rattle.report_rows.specs.Ends.{EndValue, end_value}
 use Rattle.row_check.specs.Rows.{rows_judged}
 use Rattle.row_check.proofs.JudgmentLaws.{Agree}
-use Rattle.row_check.proofs.EndLaws.{spent-from, spent-to, stopped-from, stopped-to}
+use Rattle.row_check.proofs.EndLaws.{table-from, spent-from, spent-to, stopped-from, stopped-to, beyond-from, beyond-to}
 use Rattle.replayer.specs.declared.ends.Timing.{Timing}
 use Rattle.replayer.specs.Cores.{plain_timing, stop_rows, done_by}
-use Rattle.replayer.specs.Timetables.{limit_of, timetable_judged}
+use Rattle.replayer.specs.Timetables.{bound_on, limit_of}
 use Rattle.replayer.proofs.RightCores.{core_of}
-use Rattle.replayer.proofs.RightEnds.{EndsBy, IsAsDue, next_there}
+use Rattle.replayer.proofs.RightEnds.{IsLate, EndsBy, IsAsDue, next_there, timing_there}
 
 -- what a core leaves that ended so, with no room for more rows
 abbrev pub core_end : EndValue → CoreEnd
@@ -59,57 +59,79 @@ plain_by budget cycles used (Stopped stop) next right = (right.0, ap (λ n. Some
 plain_by budget cycles used Spent next right = right
 
 -- no row is judged where none is kept
-none_judged : (line : ℕ) (limit : Option ℕ) (past : List Timed) (instrs : List (Option Instr)) (stop : Option Instr)
-    → Agree (rows_judged line limit past instrs stop [])
-none_judged line limit past [] stop = tt
-none_judged line limit past (instr ∷ instrs) stop = tt
+none_judged : (line : ℕ) (bound limit : Option ℕ) (past : List Timed) (instrs : List (Option Instr)) (stop : Option Instr)
+    → Agree (rows_judged line bound limit past instrs stop [])
+none_judged line bound limit past [] stop = tt
+none_judged line bound limit past (instr ∷ instrs) stop = tt
 
 -- ---- a core with five stages
 
 -- what its end is judged by, where its timetable is to have so many rows
-abbrev staged : End → List (Option Instr) → Option Instr → List TimeRow → ℕ → Timing
-staged kept instrs instr rows count = record {
+abbrev staged : Option ℕ → End → List (Option Instr) → Option Instr → List TimeRow → ℕ → Timing
+staged bound kept instrs instr rows count = record {
   used = 0;
-  done = done_by kept (first_m (past_at_once [] instrs) instr);
+  done = done_by bound kept (first_m (past_at_once [] instrs) instr);
   stopped = option_map (λ (row : TimeRow). row.m) (last_where rows);
   rows = count;
 }
 
--- what it ended by doesn't look at the number of rows
-by_rows : (budget cycles : ℕ) (kept : End) (instrs : List (Option Instr)) (instr : Option Instr) (next : Next) (rows : List TimeRow)
-    (m n : ℕ)
-    → EndsBy kept budget cycles (staged kept instrs instr rows m) next → EndsBy kept budget cycles (staged kept instrs instr rows n) next
-by_rows budget cycles (Stopped stop) instrs instr next rows m n by = by
-by_rows budget cycles Spent instrs instr next rows m n by = by
+-- what comes next is done in this cycle at the latest, by the instructions alone, where that is told
+abbrev done_on : MachineKind → List (Option Instr) → Option Instr → Option ℕ
+done_on machine instrs instr = done_by (bound_on machine) Spent (first_m (past_at_once [] instrs) instr)
 
-staged_right : (line budget cycles : ℕ) (kept : End) (instrs : List (Option Instr)) (instr : Option Instr) (next : Next)
-    (rows : List TimeRow)
-    → cycles ≤ budget → length rows ≡ length instrs + stop_rows kept
-    → EndsBy kept budget cycles (staged kept instrs instr rows (length rows)) next
-    → Agree (rows_judged line (limit_of budget kept) [] instrs instr rows)
-    → EndsInStages kept (Some 0) budget instrs instr next cycles rows
-staged_right line budget cycles (Stopped stop) instrs instr next rows within count by all =
-    (by.0, within, stopped-from line instrs instr rows cycles count all by.1)
-staged_right line budget cycles Spent instrs instr next rows within count by all =
-    let few : length rows ≡ length instrs = omega (arith, count) in
-    (by.0, spent-from line instrs instr rows budget few all by.2)
+-- it is beyond the budget then exactly where it is behind the rows
+beyond_behind : (machine : MachineKind) (budget : ℕ) (instrs : List (Option Instr)) (instr : Option Instr) (rows : List TimeRow)
+    → IsTable (bound_on machine) [] instrs rows → IsLate budget (done_on machine instrs instr)
+    → IsBeyond (bound_on machine) budget (past_of [] instrs rows) instr
+beyond_behind Plain budget instrs instr rows table late = beyond-from instrs instr rows budget table late
+beyond_behind Pipe budget instrs instr rows table late = beyond-from instrs instr rows budget table late
+beyond_behind Full budget instrs instr rows table late = tt
 
-record StagedAgrees (line budget cycles : ℕ) (kept : End) (instrs : List (Option Instr)) (instr : Option Instr) (next : Next)
-    (rows : List TimeRow) : Type 0 where
-  pub count : length rows ≡ length instrs + stop_rows kept
-  pub by : EndsBy kept budget cycles (staged kept instrs instr rows (length rows)) next
-  pub judged : Agree (rows_judged line (limit_of budget kept) [] instrs instr rows)
+late_behind : (machine : MachineKind) (budget : ℕ) (instrs : List (Option Instr)) (instr : Option Instr) (rows : List TimeRow)
+    → IsTable (bound_on machine) [] instrs rows → IsBeyond (bound_on machine) budget (past_of [] instrs rows) instr
+    → IsLate budget (done_on machine instrs instr)
+late_behind Plain budget instrs instr rows table beyond = beyond-to instrs instr rows budget table beyond
+late_behind Pipe budget instrs instr rows table beyond = beyond-to instrs instr rows budget table beyond
+late_behind Full budget instrs instr rows table beyond = tt
 
-staged_agrees : (line budget cycles : ℕ) (kept : End) (instrs : List (Option Instr)) (instr : Option Instr) (next : Next)
-    (rows : List TimeRow)
-    → EndsInStages kept (Some 0) budget instrs instr next cycles rows
-    → StagedAgrees line budget cycles kept instrs instr next rows
-staged_agrees line budget cycles (Stopped stop) instrs instr next rows right =
-    let to = stopped-to line instrs instr rows cycles right.2 in
-    record { count = to.0; by = (right.0, to.2); judged = to.1 }
-staged_agrees line budget cycles Spent instrs instr next rows right =
-    let to = spent-to line instrs instr rows budget right.1 in
-    record { count = omega (arith, to.0); by = (right.0, omega arith, to.2); judged = to.1 }
+module _ (machine : MachineKind) (line budget cycles : ℕ) (instrs : List (Option Instr)) (instr : Option Instr) (next : Next)
+    (rows : List TimeRow) where
+  abbrev bound : Option ℕ
+  bound = bound_on machine
+
+  -- no row of its timetable differs, by its end
+  abbrev JudgedBy : End → Type 0
+  JudgedBy kept = Agree (rows_judged line bound (limit_of budget kept) [] instrs instr rows)
+
+  -- it ended by its timing, which is to tell so many rows
+  abbrev By : End → ℕ → Type 0
+  By kept count = EndsBy kept budget cycles (staged bound kept instrs instr rows count) next
+
+  staged_right : (kept : End) (count : ℕ) → cycles ≤ budget → length rows ≡ length instrs + stop_rows kept → By kept count → JudgedBy kept
+      → EndsInStages kept bound budget instrs instr next cycles rows
+  staged_right (Stopped stop) count within all by judged =
+      (by.0, within, stopped-from line bound instrs instr rows cycles all judged by.1)
+  staged_right Spent count within all by judged =
+      let few : length rows ≡ length instrs = omega (arith, all) in
+      let table = table-from line bound instrs instr rows (Some budget) few judged in
+      (by.0, spent-from line bound instrs instr rows budget few judged (beyond_behind machine budget instrs instr rows table by.2))
+
+  record StagedAgrees (kept : End) (count : ℕ) : Type 0 where
+    pub all : length rows ≡ length instrs + stop_rows kept
+    pub by : By kept count
+    pub judged : JudgedBy kept
+
+  staged_agrees : (kept : End) (count : ℕ) → EndsInStages kept bound budget instrs instr next cycles rows → StagedAgrees kept count
+  staged_agrees (Stopped stop) count right =
+      let to = stopped-to line bound instrs instr rows cycles right.2 in
+      record { all = to.0; by = (right.0, to.2); judged = to.1 }
+  staged_agrees Spent count right =
+      let to = spent-to line bound instrs instr rows budget right.1 in
+      record {
+        all = omega (arith, to.0);
+        by = (right.0, omega arith, late_behind machine budget instrs instr rows right.1.table right.1.no_more);
+        judged = to.1;
+      }
 
 -- ---- by the machine
 
@@ -121,58 +143,77 @@ module _ (setup : Setup) (image : ImageValue) (outcome : OutcomeValue) (core : �
   abbrev instrs : ℕ → List (Option Instr)
   instrs retired = executed_by image core setup.cores accesses retired
 
-  pub ends_on : (machine : MachineKind) (line : ℕ) (kept : EndValue) → IsUncached machine → kept.cycles ≤ setup.budget
+  -- no row of a timetable differs
+  abbrev pub JudgedOn : MachineKind → ℕ → EndValue → Type 0
+  JudgedOn machine line kept =
+      JudgedBy machine line setup.budget kept.cycles (instrs kept.retired) (instr_on image.code kept.state.dpc)
+      (next_there image (core_of kept.retired kept.state)) kept.rows kept.end
+
+  staged_on : (machine : MachineKind) (line : ℕ) (kept : EndValue) → kept.cycles ≤ setup.budget
+      → length (instrs kept.retired) ≡ kept.retired → length kept.rows ≡ kept.retired + stop_rows kept.end
+      → By machine line setup.budget kept.cycles (instrs kept.retired) (instr_on image.code kept.state.dpc)
+      (next_there image (core_of kept.retired kept.state)) kept.rows kept.end (kept.retired + stop_rows kept.end)
+      → JudgedOn machine line kept
+      → IsStagedEnd (bound_on machine) setup.budget image core setup.cores accesses (core_end kept)
+  staged_on machine line kept within all rows by judged =
+      staged_right machine line setup.budget kept.cycles (instrs kept.retired) (instr_on image.code kept.state.dpc)
+      (next_there image (core_of kept.retired kept.state)) kept.rows kept.end (kept.retired + stop_rows kept.end) within
+      (omega (arith, all, rows)) by judged
+
+  pub ends_on : (machine : MachineKind) (line : ℕ) (kept : EndValue) → kept.cycles ≤ setup.budget
       → length (instrs kept.retired) ≡ kept.retired
       → IsAsDue machine setup image core accesses kept (core_of kept.retired kept.state)
-      → Agree (timetable_judged line setup image core accesses kept) → EndsOn machine setup image outcome core (core_end kept)
-  ends_on Plain line kept uncached within all due judged = (
+      → JudgedOn machine line kept → EndsOn machine setup image outcome core (core_end kept)
+  ends_on Plain line kept within all due judged = (
     plain_right setup.budget kept.cycles (kept.retired + length accesses) kept.end
         (next_there image (core_of kept.retired kept.state)) within due.ends,
     nil_from_length kept.rows due.rows,
   )
-  ends_on Pipe line kept uncached within all due judged =
-      let count : length kept.rows ≡ length (instrs kept.retired) + stop_rows kept.end = omega (arith, all, due.rows) in
-      let instr = instr_on image.code kept.state.dpc in
-      let next = next_there image (core_of kept.retired kept.state) in
-      let by = by_rows setup.budget kept.cycles kept.end (instrs kept.retired) instr next kept.rows (kept.retired + stop_rows kept.end)
-      (length kept.rows) due.ends in
-      staged_right line setup.budget kept.cycles kept.end (instrs kept.retired) instr next kept.rows within count by judged
-  ends_on Full line kept (inl is) within all due judged = cc
-  ends_on Full line kept (inr is) within all due judged = cc
+  ends_on Pipe line kept within all due judged = staged_on Pipe line kept within all due.rows due.ends judged
+  ends_on Full line kept within all due judged = staged_on Full line kept within all due.rows due.ends judged
 
   -- what is judged of a core that ended rightly
   pub record EndAsDue (machine : MachineKind) (ended : CoreEnd) : Type 0 where
     pub due : IsAsDue machine setup image core accesses (end_value ended) (final_of ended)
-    pub judged : (line : ℕ) → Agree (timetable_judged line setup image core accesses (end_value ended))
+    pub judged : (line : ℕ) → JudgedOn machine line (end_value ended)
 
-  pub end_as_due : (machine : MachineKind) (ended : CoreEnd) → IsUncached machine → length (instrs ended.retired) ≡ ended.retired
+  -- a core with five stages, with the timing of its machine
+  staged_due : (machine : MachineKind) (ended : CoreEnd) → length (instrs ended.retired) ≡ ended.retired
+      → timing_there machine setup image core accesses (end_value ended) (final_of ended)
+      ≡ staged (bound_on machine) ended.end (instrs ended.retired) (instr_on image.code ended.state.dpc) ended.rows.rows
+      (ended.retired + stop_rows ended.end)
+      → IsStagedEnd (bound_on machine) setup.budget image core setup.cores accesses ended
+      → EndAsDue machine ended
+  staged_due machine ended all timing_is right =
+      let instr = instr_on image.code ended.state.dpc in
+      let next = next_there image (final_of ended) in
+      let count = ended.retired + stop_rows ended.end in
+      let agrees : (line : ℕ)
+      → StagedAgrees machine line setup.budget ended.cycles (instrs ended.retired) instr next ended.rows.rows ended.end count =
+      λ line. staged_agrees machine line setup.budget ended.cycles (instrs ended.retired) instr next ended.rows.rows ended.end count right
+      in
+      record {
+        due = record {
+          retired = refl;
+          state = refl;
+          ends = rw timing_is (agrees 0).by;
+          rows = rw timing_is (omega (arith, all, (agrees 0).all));
+        };
+        judged = λ line. (agrees line).judged;
+      }
+
+  pub end_as_due : (machine : MachineKind) (ended : CoreEnd) → length (instrs ended.retired) ≡ ended.retired
       → EndsOn machine setup image outcome core ended → EndAsDue machine ended
-  end_as_due Plain ended uncached all right = record {
+  end_as_due Plain ended all right = record {
     due = record {
       retired = refl;
       state = refl;
       ends = plain_by setup.budget ended.cycles (ended.retired + length accesses) ended.end (next_there image (final_of ended)) right.0;
       rows = ap (λ (rows : List TimeRow). length rows) right.1;
     };
-    judged = λ line. subst (λ rows. Agree (rows_judged line (limit_of setup.budget ended.end) [] (instrs ended.retired)
+    judged = λ line. subst (λ rows. Agree (rows_judged line (Some 0) (limit_of setup.budget ended.end) [] (instrs ended.retired)
         (instr_on image.code ended.state.dpc) rows)) (sym right.1)
-        (none_judged line (limit_of setup.budget ended.end) [] (instrs ended.retired) (instr_on image.code ended.state.dpc));
+        (none_judged line (Some 0) (limit_of setup.budget ended.end) [] (instrs ended.retired) (instr_on image.code ended.state.dpc));
   }
-  end_as_due Pipe ended uncached all right =
-      let instr = instr_on image.code ended.state.dpc in
-      let next = next_there image (final_of ended) in
-      let agrees : (line : ℕ)
-      → StagedAgrees line setup.budget ended.cycles ended.end (instrs ended.retired) instr next ended.rows.rows =
-      λ line. staged_agrees line setup.budget ended.cycles ended.end (instrs ended.retired) instr next ended.rows.rows right in
-      record {
-        due = record {
-          retired = refl;
-          state = refl;
-          ends = by_rows setup.budget ended.cycles ended.end (instrs ended.retired) instr next ended.rows.rows (length ended.rows.rows)
-              (ended.retired + stop_rows ended.end) (agrees 0).by;
-          rows = omega (arith, all, (agrees 0).count);
-        };
-        judged = λ line. (agrees line).judged;
-      }
-  end_as_due Full ended (inl is) all right = cc
-  end_as_due Full ended (inr is) all right = cc
+  end_as_due Pipe ended all right = staged_due Pipe ended all refl right
+  end_as_due Full ended all right = staged_due Full ended all refl right

@@ -21,7 +21,7 @@ use Rattle.row_check.specs.declared.difference.Difference.{Difference}
 use Rattle.row_check.specs.Judgments.{Judgment, first_told}
 use Rattle.row_check.specs.declared.clocks.Clocks.{Clocks}
 use Rattle.right_run.specs.Stages.{executed_by}
-use Rattle.replayer.specs.Timetables.{AreKnown, EachKnown, timetable_judged, timetables_judged}
+use Rattle.replayer.specs.Timetables.{bound_on, AreKnown, EachKnown, timetable_judged, timetables_judged}
 use Rattle.replayer.proofs.JudgeLemmas.{first_before, first_behind}
 use Rattle.replayer.proofs.LineLemmas.{timed_count}
 
@@ -44,14 +44,18 @@ told_here line core told given report items kept is items_are told_is = rw (item
 -- what is known of its clocks, in other words
 pub known_here : (core : ℕ) (clocks : Option Clocks) (given report : ReportValue) (items : List Item) (retired : ℕ)
     → given ≡ report → items ≡ given.items
-    → AreKnown clocks (executed_by given.image core given.setup.cores (own (entries items) core) retired)
-    → AreKnown clocks (executed_by report.image core report.setup.cores (own (entries report.items) core) retired)
+    → AreKnown (bound_on given.setup.machine) clocks
+    (executed_by given.image core given.setup.cores (own (entries items) core) retired)
+    → AreKnown (bound_on report.setup.machine) clocks
+    (executed_by report.image core report.setup.cores (own (entries report.items) core) retired)
 known_here core clocks given report items retired is items_are known = rw (items_are, is) at known
 
 pub known_there : (core : ℕ) (clocks : Option Clocks) (given report : ReportValue) (items : List Item) (retired : ℕ)
     → given ≡ report → items ≡ given.items
-    → AreKnown clocks (executed_by report.image core report.setup.cores (own (entries report.items) core) retired)
-    → AreKnown clocks (executed_by given.image core given.setup.cores (own (entries items) core) retired)
+    → AreKnown (bound_on report.setup.machine) clocks
+    (executed_by report.image core report.setup.cores (own (entries report.items) core) retired)
+    → AreKnown (bound_on given.setup.machine) clocks
+    (executed_by given.image core given.setup.cores (own (entries items) core) retired)
 known_there core clocks given report items retired is items_are known = rw (items_are, is) known
 
 module _ (setup : Setup) (image : ImageValue) (order : List Entry) (first_line : ℕ) (ends : List EndValue) where
@@ -95,10 +99,11 @@ module _ (setup : Setup) (image : ImageValue) (order : List Entry) (first_line :
 -- those of one core more
 pub more_known : (report : ReportValue) (clocks : List (Option Clocks)) (core : ℕ) (kept : EndValue) (new : Option Clocks)
     → EachKnown report clocks → core < length clocks → slice_get report.cores core ≡ Some kept
-    → AreKnown new (executed_by report.image core report.setup.cores (own (entries report.items) core) kept.retired)
+    → AreKnown (bound_on report.setup.machine) new
+    (executed_by report.image core report.setup.cores (own (entries report.items) core) kept.retired)
     → EachKnown report (set clocks core new)
 more_known report clocks core kept new known below there is j other at = elim (cases_eq j core)
-    as (λ _. AreKnown (get_or (set clocks core new) j None)
+    as (λ _. AreKnown (bound_on report.setup.machine) (get_or (set clocks core new) j None)
     (executed_by report.image j report.setup.cores (own (entries report.items) j) other.retired)) [
       | inl same ↦
           (let here : slice_get report.cores core ≡ Some other = rw same at at in

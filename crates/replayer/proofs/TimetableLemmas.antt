@@ -1,8 +1,10 @@
 -- A row more of a timetable: behind it nothing differed so far, and the clocks are known.
 use Rattle.std.proofs.Common.{◌≡◌, ℕ, ◌+◌, ◌*◌, ◌<◌, ◌≤◌, List, [], ◌∷◌, ◌++◌, length, get_or, drop, refl, sym, ap, ◌∙◌, subst, arith}
-use Rattle.std.specs.Prelude.{Option, Some, None}
+use Rattle.std.specs.Prelude.{Bool, ◌==◌, Option, Some, None}
 use Rattle.std.specs.List.{AllByRecursion}
-use Rattle.std.proofs.lemmas.List.{at_drop_more, drop_all}
+use Rattle.std.specs.Cmp.{both_ways}
+use Rattle.std.proofs.lemmas.Bool.{eqb-true, eq-eqb}
+use Rattle.std.proofs.lemmas.List.{at_drop_more, drop_all, length-drop}
 use Rattle.std.proofs.lemmas.List.Elements.{All-from_recursion}
 use Rattle.mips_isa.specs.declared.Instr.{Instr}
 use Rattle.timetable.specs.declared.rows.TimeRow.{TimeRow}
@@ -13,8 +15,8 @@ use Rattle.row_check.specs.declared.clocks.Clocks.{Clocks}
 use Rattle.row_check.specs.declared.difference.Difference.{Difference}
 use Rattle.row_check.specs.Clocks.{AreOf, AreWithin, IsRowWithin}
 use Rattle.row_check.specs.Judgments.{Judgment, first_told}
-use Rattle.row_check.specs.Rows.{row_judged, stop_judged, rows_judged}
-use Rattle.row_check.proofs.JudgmentLaws.{agree}
+use Rattle.row_check.specs.Rows.{limit_for, row_judged, stop_judged, rows_judged}
+use Rattle.row_check.proofs.JudgmentLaws.{Agree, agree}
 use Rattle.row_check.proofs.EndLaws.{row-at_once}
 use Rattle.replayer.specs.Timetables.{AreKnown}
 use Rattle.replayer.proofs.JudgeLemmas.{first_before, first_behind}
@@ -95,81 +97,104 @@ pub times_at : (rows : List TimeRow) (index : ℕ) (d : TimeRow) → index < len
     → IsRowWithin 1000000 (get_or rows index d)
 times_at rows index d below times = times_within (get_or rows index d) (All-from_recursion AreTimes rows times index d below)
 
-module _ (first_line : ℕ) (limit : Option ℕ) (stop : Option Instr) (all : List (Option Instr)) (rows : List TimeRow) where
+module _ (first_line : ℕ) (bound limit : Option ℕ) (stop : Option Instr) (all : List (Option Instr)) (rows : List TimeRow) where
   abbrev due : List Judgment
-  due = rows_judged first_line limit [] all stop rows
+  due = rows_judged first_line bound limit [] all stop rows
 
-  -- The rows below an index don't differ, and the clocks are those behind them.
+  -- The rows below an index don't differ, and the clocks are those behind them: where nothing waits, those at once.
   pub record RowsSoFar (line : ℕ) (clocks : Clocks) (left : List (Option Instr)) (index : ℕ) : Type 0 where
     pub line_is : line ≡ first_line + index
     pub within : AreWithin 1000000 clocks
     pub past : List Timed
     pub of : AreOf clocks past
-    pub same : first_told (rows_judged line limit past left stop (drop index rows)) ≡ first_told due
-    pub at_once : past_at_once past left ≡ past_at_once [] all
+    pub same : first_told (rows_judged line bound limit past left stop (drop index rows)) ≡ first_told due
+    pub at_once : bound ≡ Some 0 → past_at_once past left ≡ past_at_once [] all
 
   module _ (line : ℕ) (clocks : Clocks) (left : List (Option Instr)) (index : ℕ) (d : TimeRow) (so_far : RowsSoFar line clocks left index)
     where
+      abbrev row : TimeRow
+      row = get_or rows index d
+
+      abbrev later : List TimeRow
+      later = drop (index + 1) rows
+
+      abbrev row_limit : Option ℕ
+      row_limit = limit_for bound limit (length later == 0) row
+
+      -- the row at the index is the last one where its line is the last
+      pub limit_is : (end_line : ℕ) → index < length rows → end_line ≡ first_line + length rows
+          → limit_for bound limit (line + 1 == end_line) row ≡ row_limit
+      limit_is end_line below end_is =
+          let count = length-drop (index + 1) rows in
+          ap (λ (is_last : Bool). limit_for bound limit is_last row)
+          (both_ways (line + 1 == end_line) (length later == 0)
+          (λ e. eq-eqb (length later) 0 (omega (arith, eqb-true (line + 1) end_line e, count, end_is, so_far.line_is)))
+          (λ e. eq-eqb (line + 1) end_line (omega (arith, eqb-true (length later) 0 e, count, end_is, so_far.line_is, below))))
+
       -- what is told of the row at the index
       abbrev Told : Option Difference → (List Timed → List Judgment) → Type 0
       Told told judged = (past : List Timed) → AreOf clocks past → told ≡ first_told (judged past)
 
       at : index < length rows
-          → first_told (rows_judged line limit so_far.past left stop (get_or rows index d ∷ drop (index + 1) rows)) ≡ first_told due
+          → first_told (rows_judged line bound limit so_far.past left stop (row ∷ later)) ≡ first_told due
       at below =
-          sym (at_drop_more (λ rows. first_told (rows_judged line limit so_far.past left stop rows)) rows index d below) ∙ so_far.same
+          sym (at_drop_more (λ rows. first_told (rows_judged line bound limit so_far.past left stop rows)) rows index d below) ∙ so_far.same
 
       abbrev behind : (instr : Option Instr) (rest : List (Option Instr)) → List Judgment
-      behind instr rest =
-          rows_judged (line + 1) limit (timed instr (get_or rows index d) ∷ so_far.past) rest stop (drop (index + 1) rows)
+      behind instr rest = rows_judged (line + 1) bound limit (timed instr row ∷ so_far.past) rest stop later
 
       -- that of an instruction, which stands before the others
       at_instr : (instr : Option Instr) (rest : List (Option Instr)) → index < length rows → left ≡ instr ∷ rest
-          → first_told (row_judged line limit so_far.past instr (get_or rows index d) ++ behind instr rest) ≡ first_told due
+          → first_told (row_judged line bound row_limit so_far.past instr row ++ behind instr rest) ≡ first_told due
       at_instr instr rest below is =
-          sym (ap (λ left. first_told (rows_judged line limit so_far.past left stop (get_or rows index d ∷ drop (index + 1) rows))) is)
-          ∙ at below
+          sym (ap (λ left. first_told (rows_judged line bound limit so_far.past left stop (row ∷ later))) is) ∙ at below
 
-      pub row_differs : (instr : Option Instr) (rest : List (Option Instr)) (difference : Difference) → index < length rows
-          → left ≡ instr ∷ rest
-          → Told (Some difference) (λ past. row_judged line limit past instr (get_or rows index d)) → Some difference ≡ first_told due
-      row_differs instr rest difference below is told =
-          sym (first_before (row_judged line limit so_far.past instr (get_or rows index d)) (behind instr rest) difference
-          (sym (told so_far.past so_far.of))) ∙ at_instr instr rest below is
+      pub row_differs : (instr : Option Instr) (rest : List (Option Instr)) (difference : Difference) (found : Option ℕ)
+          → index < length rows → left ≡ instr ∷ rest → found ≡ row_limit
+          → Told (Some difference) (λ past. row_judged line bound found past instr row) → Some difference ≡ first_told due
+      row_differs instr rest difference found below is limit_so told =
+          sym (first_before (row_judged line bound row_limit so_far.past instr row) (behind instr rest) difference
+          (sym (rw limit_so at (told so_far.past so_far.of)))) ∙ at_instr instr rest below is
 
-      pub row_agrees : (instr : Option Instr) (rest : List (Option Instr)) (new : Clocks) → index < length rows → left ≡ instr ∷ rest
-          → Told None (λ past. row_judged line limit past instr (get_or rows index d)) → GoesOn clocks instr (get_or rows index d) new
-          → IsRowWithin 1000000 (get_or rows index d) → RowsSoFar (line + 1) new rest (index + 1)
-      row_agrees instr rest new below is told goes few =
-          let past_is = row-at_once line limit so_far.past instr (get_or rows index d)
-          (agree (row_judged line limit so_far.past instr (get_or rows index d)) (sym (told so_far.past so_far.of))) in
+      pub row_agrees : (instr : Option Instr) (rest : List (Option Instr)) (new : Clocks) (found : Option ℕ)
+          → index < length rows → left ≡ instr ∷ rest → found ≡ row_limit
+          → Told None (λ past. row_judged line bound found past instr row) → GoesOn clocks instr row new
+          → IsRowWithin 1000000 row → RowsSoFar (line + 1) new rest (index + 1)
+      row_agrees instr rest new found below is limit_so told goes few =
+          let none : first_told (row_judged line bound row_limit so_far.past instr row) ≡ None =
+          sym (rw limit_so at (told so_far.past so_far.of)) in
           record {
             line_is = omega (arith, so_far.line_is);
             within = goes.1 1000000 so_far.within few;
-            past = timed instr (get_or rows index d) ∷ so_far.past;
+            past = timed instr row ∷ so_far.past;
             of = goes.0 so_far.past so_far.of;
-            same = sym (first_behind (row_judged line limit so_far.past instr (get_or rows index d)) (behind instr rest)
-                (sym (told so_far.past so_far.of))) ∙ at_instr instr rest below is;
-            at_once = ap (λ past. past_at_once past rest) past_is
-                ∙ (ap (past_at_once so_far.past) (sym is) ∙ so_far.at_once);
+            same = sym (first_behind (row_judged line bound row_limit so_far.past instr row) (behind instr rest) none)
+                ∙ at_instr instr rest below is;
+            at_once = λ zero. ap (λ past. past_at_once past rest)
+                (row-at_once line row_limit so_far.past instr row
+                (subst (λ b. Agree (row_judged line b row_limit so_far.past instr row)) zero
+                (agree (row_judged line bound row_limit so_far.past instr row) none)))
+                ∙ (ap (past_at_once so_far.past) (sym is) ∙ so_far.at_once zero);
           }
 
       -- where no instruction is left, the clocks are those behind all of them
-      pub all_known : left ≡ [] → AreKnown (Some clocks) all
-      all_known none = (subst (AreOf clocks) (ap (past_at_once so_far.past) (sym none) ∙ so_far.at_once) so_far.of, so_far.within)
+      pub all_known : left ≡ [] → AreKnown bound (Some clocks) all
+      all_known none zero =
+          (subst (AreOf clocks) (ap (past_at_once so_far.past) (sym none) ∙ so_far.at_once zero) so_far.of, so_far.within)
 
       pub stop_told : (told : Option Difference) → index < length rows → left ≡ []
-          → Told told (λ past. stop_judged line past stop (get_or rows index d)) → told ≡ first_told due
+          → Told told (λ past. stop_judged line bound past stop row) → told ≡ first_told due
       stop_told told below none is =
           is so_far.past so_far.of
-          ∙ (sym (ap (λ left. first_told (rows_judged line limit so_far.past left stop (get_or rows index d ∷ drop (index + 1) rows))) none)
+          ∙ (sym (ap (λ left. first_told (rows_judged line bound limit so_far.past left stop (row ∷ later))) none)
           ∙ at below)
 
-      no_rows : (left : List (Option Instr)) → rows_judged line limit so_far.past left stop [] ≡ []
+      no_rows : (left : List (Option Instr)) → rows_judged line bound limit so_far.past left stop [] ≡ []
       no_rows [] = refl
       no_rows (instr ∷ rest) = refl
 
       pub none_told : length rows ≤ index → None ≡ first_told due
       none_told end =
           sym (ap first_told (no_rows left))
-          ∙ (sym (ap (λ rows. first_told (rows_judged line limit so_far.past left stop rows)) (drop_all index rows end)) ∙ so_far.same)
+          ∙ (sym (ap (λ rows. first_told (rows_judged line bound limit so_far.past left stop rows)) (drop_all index rows end))
+          ∙ so_far.same)

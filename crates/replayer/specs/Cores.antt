@@ -27,6 +27,7 @@ use Rattle.report_rows.specs.Ends.{EndValue}
 use Rattle.row_check.specs.Judgments.{Judgment, number, optional, word, end, allowed}
 use Rattle.replayer.specs.declared.ends.Timing.{Timing}
 use Rattle.replayer.specs.Lists.{registers_judged}
+use Rattle.replayer.specs.Timetables.{bound_on}
 
 -- A core after at most so many instructions: it goes no further than to an access or a stop.
 unfoldable pub farthest : List ℕ → ℕ → ℕ → Core → Core
@@ -44,23 +45,24 @@ core_to machine n core = farthest machine.code (replays.memory_bytes machine) (n
 
 -- An unpipelined core that used so many cycles has no timetable. A stop takes a cycle.
 abbrev pub plain_timing : ℕ → Next → Timing
-plain_timing used next = record { used = used; done = used + plain_cycles next; stopped = Some (used + 1); rows = 0 }
+plain_timing used next = record { used = used; done = Some (used + plain_cycles next); stopped = Some (used + 1); rows = 0 }
 
 -- A stop has a row of its own.
 abbrev pub stop_rows : End → ℕ
 stop_rows (Stopped stop) = 1
 stop_rows Spent = 0
 
--- The cycle in which what comes next is done, by the end that is kept: a core that stopped has nothing to come.
-abbrev pub done_by : End → ℕ → ℕ
-done_by (Stopped stop) at_once = 0
-done_by Spent at_once = at_once
+-- The cycle in which what comes next is done at the latest, by the end that is kept: of a spent core, where nothing waits. A core that
+-- stopped has nothing to come, and where words and answers may come late nothing tells the cycle.
+abbrev pub done_by : Option ℕ → End → ℕ → Option ℕ
+done_by (Some zero) Spent at_once = Some at_once
+done_by bound kept at_once = None
 
 -- A core with five stages that executed these instructions, and comes to this one next, has its cycles in its timetable.
-abbrev pub staged_timing : EndValue → ℕ → List (Option Instr) → Option Instr → Timing
-staged_timing kept executed instrs instr = record {
+abbrev pub staged_timing : Option ℕ → EndValue → ℕ → List (Option Instr) → Option Instr → Timing
+staged_timing bound kept executed instrs instr = record {
   used = 0;
-  done = done_by kept.end (first_m (past_at_once [] instrs) instr);
+  done = done_by bound kept.end (first_m (past_at_once [] instrs) instr);
   stopped = option_map (λ (row : TimeRow). row.m) (last_where kept.rows);
   rows = executed + stop_rows kept.end;
 }
@@ -69,21 +71,27 @@ staged_timing kept executed instrs instr = record {
 abbrev pub timing_on : MachineKind → ImageValue → ℕ → ℕ → List Entry → EndValue → Core → Next → Timing
 timing_on Plain image core cores accesses kept there next = plain_timing (there.executed + length accesses) next
 timing_on machine image core cores accesses kept there next =
-    staged_timing kept there.executed (executed_by image core cores accesses there.executed) (instr_on image.code there.state.dpc)
+    staged_timing (bound_on machine) kept there.executed (executed_by image core cores accesses there.executed)
+    (instr_on image.code there.state.dpc)
 
 -- ---- its end
 
--- The stop that comes next is due, and else that the budget is spent. A spent core may be at a stop that its budget didn't reach.
-abbrev pub due_end : ℕ → ℕ → End → Next → End
-due_end budget done Spent (Stops stop) = if nat_le done budget then Stopped stop else Spent
-due_end budget done (Stopped kept) (Stops stop) = Stopped stop
-due_end budget done kept (Goes state) = Spent
-due_end budget done kept (Asks access) = Spent
+-- Whether what comes next may be done only beyond the budget: it may where nothing tells its cycle.
+abbrev pub may_be_beyond : ℕ → Option ℕ → Bool
+may_be_beyond budget None = true
+may_be_beyond budget (Some cycle) = nat_lt budget cycle
 
--- A spent core used no more than its budget, and what comes next would not be done within it.
+-- The stop that comes next is due, and else that the budget is spent. A spent core may be at a stop that its budget didn't reach.
+abbrev pub due_end : ℕ → Option ℕ → End → Next → End
+due_end budget cycle Spent (Stops stop) = if may_be_beyond budget cycle then Spent else Stopped stop
+due_end budget cycle (Stopped kept) (Stops stop) = Stopped stop
+due_end budget cycle kept (Goes state) = Spent
+due_end budget cycle kept (Asks access) = Spent
+
+-- A spent core used no more than its budget, and what comes next need not be done within it.
 abbrev pub may_be_spent : ℕ → Timing → End → Bool
 may_be_spent budget timing (Stopped stop) = true
-may_be_spent budget timing Spent = nat_le timing.used budget && nat_lt budget timing.done
+may_be_spent budget timing Spent = nat_le timing.used budget && may_be_beyond budget timing.done
 
 -- A core that stopped took the cycle of its stop; a spent one took all of its budget.
 abbrev pub due_cycles : ℕ → Option ℕ → End → Option ℕ

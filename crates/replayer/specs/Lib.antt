@@ -1,5 +1,5 @@
 pub mod Lists
-pub mod Cores
 pub mod Timetables
+pub mod Cores
 pub mod Outcome
 pub mod Difference

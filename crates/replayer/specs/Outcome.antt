@@ -1,4 +1,4 @@
--- What is due behind the accesses of a report.
+-- What is due behind the history of a report.
 use Rattle.std.specs.Prelude.{ℕ, ◌+◌, List, ◌++◌, length, map}
 use Rattle.image_file.specs.Value.{start_memory, start_states}
 use Rattle.access_log.specs.Items.{entries}
@@ -13,10 +13,10 @@ use Rattle.replayer.specs.Lists.{words_judged, counts_judged}
 use Rattle.replayer.specs.Cores.{cores_judged}
 use Rattle.replayer.specs.Timetables.{timetables_judged}
 
--- The lines of the first access, of the first core, of the first memory word, of the first row of a timetable and of the first
+-- The lines of the first item of the history, of the first core, of the first memory word, of the first row of a timetable and of the first
 -- count: each is behind the rows before it.
-abbrev pub entries_line : ReportValue → ℕ
-entries_line report = length (header_rows report.setup ++ image_rows report.image) + 1
+abbrev pub history_line : ReportValue → ℕ
+history_line report = length (header_rows report.setup ++ image_rows report.image) + 1
 
 abbrev pub cores_line : ReportValue → ℕ
 cores_line report = length (run_rows report) + 1
@@ -35,7 +35,7 @@ counts_line report =
 abbrev pub machine_of : ReportValue → FlatMachine
 machine_of report = started report.image.code (start_memory report.image) (start_states report.image report.setup.cores)
 
--- All rows behind the accesses, in order, by the machine that made these.
+-- All rows behind the history, in order, by the machine that made its accesses.
 abbrev pub outcome_judged : ReportValue → FlatMachine → List Judgment
 outcome_judged report machine =
     cores_judged (cores_line report) report.setup report.image machine (entries report.items) 0 report.cores machine.cores

@@ -10,7 +10,7 @@ ghost use Rattle.report_text.specs.Form.{IsReport};
 ghost use Rattle.row_check.specs.Judgments.{first_told};
 ghost use Rattle.replayer.specs.Lists.{registers_judged};
 ghost use Rattle.right_run.specs.Stages.{executed_by};
-ghost use Rattle.replayer.specs.Timetables.{AreKnown, EachKnown};
+ghost use Rattle.replayer.specs.Timetables.{bound_on, AreKnown, EachKnown};
 ghost use Rattle.replayer.specs.Cores.{end_judged, core_judged, cores_judged, core_to};
 
 use crate::Difference;
@@ -84,7 +84,7 @@ fn core_there_difference(
     requires line { line < 2 ^ 32 - 5 }
     requires items { length items.now < 2 ^ 31 }
     requires kept { kept.now.retired ≤ 100002 }
-    requires known { AreKnown clocks.now (executed_by image.now core setup.now.cores (own (entries items.now) core) kept.now.retired) }
+    requires known { AreKnown (bound_on setup.now.machine) clocks.now (executed_by image.now core setup.now.cores (own (entries items.now) core) kept.now.retired) }
     ensures { result ≡ first_told (core_judged line setup.now image.now core (own (entries items.now) core) (end_value kept.now) there.now) }
 {
     if kept.retired != there.executed {

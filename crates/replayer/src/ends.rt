@@ -7,12 +7,12 @@ ghost use Rattle.timetable.specs.AtOnce.{first_m, past_at_once};
 ghost use Rattle.report_rows.specs.Ends.{end_value};
 ghost use Rattle.report_text.specs.Counts.{at_entry};
 ghost use Rattle.row_check.specs.Judgments.{first_told};
-ghost use Rattle.replayer.specs.Timetables.{AreKnown};
-ghost use Rattle.replayer.specs.Cores.{plain_timing, stop_rows, timing_on, due_end, may_be_spent, due_cycles, end_judged};
+ghost use Rattle.replayer.specs.Timetables.{bound_on, AreKnown};
+ghost use Rattle.replayer.specs.Cores.{plain_timing, stop_rows, timing_on, may_be_beyond, due_end, may_be_spent, due_cycles, end_judged};
 
 use crate::Difference;
 use crate::course::{Course, instr_on};
-use crate::timetables::done_behind;
+use crate::timetables::{bound_on, done_behind};
 use access_log::{Core, Field, Item};
 use image_file::Image;
 use kmp_base::{MachineKind, Setup};
@@ -27,8 +27,8 @@ use timetable::{CoreEnd, End};
 pub(crate) struct Timing {
     /// The cycles that it used.
     pub used: u32,
-    /// The cycle in which what comes next is done, if nothing has to be waited for.
-    pub done: u32,
+    /// The cycle in which what comes next is done at the latest; none where nothing tells it.
+    pub done: Option<u32>,
     /// The cycle of its stop, where one is told.
     pub stopped: Option<u32>,
     /// How many rows its timetable has.
@@ -62,7 +62,7 @@ fn plain_timing(used: u32, next: &Next) -> Timing
 {
     Timing {
         used,
-        done: used + plain_cycles(next),
+        done: Some(used + plain_cycles(next)),
         stopped: Some(used + 1),
         rows: 0,
     }
@@ -91,20 +91,20 @@ pub(crate) fn timing_on(
     next: &Next,
 ) -> Timing
     requires items { length items.now < 2 ^ 31 }
-    requires known { AreKnown clocks.now (executed_by image.now core setup.now.cores (own (entries items.now) core) there.now.executed) }
+    requires known { AreKnown (bound_on setup.now.machine) clocks.now (executed_by image.now core setup.now.cores (own (entries items.now) core) there.now.executed) }
     requires executed { there.now.executed ≤ 100002 }
     ensures { result ≡ timing_on setup.now.machine image.now core setup.now.cores (own (entries items.now) core) (end_value kept.now) there.now next.now }
 {
     match setup.machine {
         MachineKind::Plain => plain_timing(there.executed + accesses(items, core), next),
         MachineKind::Pipe | MachineKind::Full => {
-            let done = match kept.end {
-                End::Stopped(_) => 0,
-                End::Spent => {
+            let done = match (bound_on(setup.machine), kept.end) {
+                (Some(0), End::Spent) => {
                     let mut course = Course::new(image, items, core, setup.cores, there.executed);
                     let instr = instr_on(image, there.state.dpc);
-                    done_behind(clocks, &mut course, instr)
+                    Some(done_behind(clocks, &mut course, instr))
                 }
+                _ => None,
             };
             Timing {
                 used: 0,
@@ -116,13 +116,23 @@ pub(crate) fn timing_on(
     }
 }
 
+/// Whether what comes next may be done only beyond the budget.
+fn may_be_beyond(budget: u32, done: Option<u32>) -> bool
+    ensures { result ≡ may_be_beyond budget done }
+{
+    match done {
+        None => true,
+        Some(done) => budget < done,
+    }
+}
+
 /// The end that is due, by the cycle in which what comes next is done.
-fn due_end(budget: u32, done: u32, kept: End, next: &Next) -> End
+fn due_end(budget: u32, done: Option<u32>, kept: End, next: &Next) -> End
     ensures { result ≡ due_end budget done kept next.now }
 {
     match (kept, next) {
         (_, Next::Goes(_) | Next::Asks(_)) => End::Spent,
-        (End::Spent, Next::Stops(_)) if done > budget => End::Spent,
+        (End::Spent, Next::Stops(_)) if may_be_beyond(budget, done) => End::Spent,
         (_, Next::Stops(stop)) => End::Stopped(*stop),
     }
 }
@@ -133,7 +143,7 @@ fn may_be_spent(budget: u32, timing: &Timing, kept: End) -> bool
 {
     match kept {
         End::Stopped(_) => true,
-        End::Spent => timing.used <= budget && budget < timing.done,
+        End::Spent => timing.used <= budget && may_be_beyond(budget, timing.done),
     }
 }
 

@@ -1,7 +1,8 @@
-//! The check of a report by the sequential machine.
+//! The check of a report by the sequential machine and the letters of the caches.
 //!
-//! The machine makes the report's accesses in their order, and then each core catches up to the number of instructions
-//! that its row tells. What stands in each row is compared with what the machine has there.
+//! The machine makes the report's accesses in their order, and over caches each item of the history is compared with the letters
+//! in which these hold their lines. Then each core catches up to the number of instructions that its row tells. What stands in
+//! each row is compared with what the machine has there.
 //!
 //! The law that other crates cite:
 //! - `proofs/CheckLaws`: a report has no difference exactly where it is right.
@@ -18,15 +19,14 @@ mod cores;
 mod counts;
 mod course;
 mod ends;
-mod entries;
 mod judgments;
 mod lines;
 mod outcome;
 mod timetables;
 mod words;
 
-use entries::entries_difference;
-use lines::entries_line;
+use history_check::history_difference;
+use lines::history_line;
 use outcome::outcome_difference;
 pub use report_text::NoMemory;
 use report_text::Report;
@@ -45,24 +45,30 @@ pub enum Verdict {
 }
 
 /// The first difference of a report, by the machine at the start of what it says was loaded.
-fn difference_of(machine: &mut Machine, report: &Report) -> Option<Difference>
+fn difference_of(
+    alloc: Global,
+    machine: &mut Machine,
+    report: &Report,
+) -> Result<Option<Difference>, NoMemory>
     requires form { IsReport report.now }
     requires size { length (report_text report.now) ≤ 268435456 }
     requires start { machine.old ≡ machine_of report.now }
-    ensures none { IfNone result (IsRightReport report.now) }
-    ensures some { IfSome result (λ difference. IsDifference report.now difference) }
+    ensures none { IfOk result (λ told. IfNone told (IsRightReport report.now)) }
+    ensures some { IfOk result (λ told. IfSome told (λ difference. IsDifference report.now difference)) }
 {
     let items = report.history.items();
-    if let Some(difference) = entries_difference(machine, items, entries_line(report)) {
-        return Some(difference);
+    let line = history_line(report);
+    let told = history_difference(alloc, &report.setup, &report.image, machine, items, line)?;
+    if let Some(difference) = told {
+        return Ok(Some(difference));
     }
-    outcome_difference(machine, report)
+    outcome_difference(alloc, machine, report)
 }
 
 /// Whether a report is right, and else its first difference.
 ///
 /// Each report that was read from a text meets the conditions. The error says that there wasn't enough
-/// memory for the machine; nothing else is taken.
+/// memory for the machine, or for the letters of the caches; nothing else is taken.
 pub fn check(alloc: Global, report: &Report) -> Result<Verdict, NoMemory>
     requires form { IsReport report.now }
     requires size { length (report_text report.now) ≤ 268435456 }
@@ -71,7 +77,8 @@ pub fn check(alloc: Global, report: &Report) -> Result<Verdict, NoMemory>
     ensures only { (difference : Difference) → IsDifference report.now difference → IfOk result (λ verdict. verdict ≡ Verdict.Differs difference) }
 {
     let mut machine = Machine::new(alloc, &report.image, report.setup.cores)?;
-    match difference_of(&mut machine, report) {
+    let told = difference_of(alloc, &mut machine, report)?;
+    match told {
         None => Ok(Verdict::Agrees),
         Some(difference) => Ok(Verdict::Differs(difference)),
     }

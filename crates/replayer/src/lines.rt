@@ -1,17 +1,17 @@
 //! The lines at which the rows of a report begin.
 ghost use Rattle.std.specs.Prelude.{◌≡◌, ◌≤◌, length, sum_by};
 ghost use Rattle.report_text.specs.Text.{report_text};
-ghost use Rattle.replayer.specs.Outcome.{entries_line, cores_line, words_line, timetables_line, counts_line};
+ghost use Rattle.replayer.specs.Outcome.{history_line, cores_line, words_line, timetables_line, counts_line};
 
 use image_file::image_size;
 use report_text::Report;
 use timetable::CoreEnd;
 
-/// The line of the first access. Nine rows of what was asked for, the number of the image's bytes, and the image, 32 bytes
+/// The line of the first item of the history. Nine rows of what was asked for, the number of the image's bytes, and the image, 32 bytes
 /// in a row, stand before it.
-#[tactic(auto, using(crate::proofs::LineLemmas::entries_line_is))]
-pub(crate) fn entries_line(report: &Report) -> u32
-    ensures { result ≡ entries_line report.now }
+#[tactic(auto, using(crate::proofs::LineLemmas::history_line_is))]
+pub(crate) fn history_line(report: &Report) -> u32
+    ensures { result ≡ history_line report.now }
 {
     11 + image_size(&report.image).div_ceil(32)
 }
@@ -22,7 +22,7 @@ pub(crate) fn cores_line(report: &Report) -> u32
     requires { length (report_text report.now) ≤ 268435456 }
     ensures { result ≡ cores_line report.now }
 {
-    entries_line(report) + report.history.len()
+    history_line(report) + report.history.len()
 }
 
 /// The line of the first memory word, behind five for each core.

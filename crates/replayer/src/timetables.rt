@@ -1,5 +1,5 @@
 //! The timetables of cores.
-ghost use Rattle.std.specs.Prelude.{◌≡◌, ◌+◌, ◌*◌, ◌^◌, ◌<◌, ◌≤◌, [], length, slice_get, sum_by, Some};
+ghost use Rattle.std.specs.Prelude.{◌≡◌, ◌+◌, ◌*◌, ◌^◌, ◌<◌, ◌≤◌, [], length, slice_get, sum_by, Some, IfSome};
 ghost use Rattle.std.specs.List.{AllByRecursion};
 ghost use Rattle.pipe_regs.specs.Slots.{IsProperWhere};
 ghost use Rattle.access_log.specs.Items.{entries};
@@ -12,16 +12,26 @@ ghost use Rattle.row_check.specs.Judgments.{first_told};
 ghost use Rattle.row_check.specs.Clocks.{AreOf, AreWithin};
 ghost use Rattle.row_check.specs.Rows.{rows_judged};
 ghost use Rattle.right_run.specs.Stages.{executed_by};
-ghost use Rattle.replayer.specs.Timetables.{limit_of, AreKnown, EachKnown, timetable_judged, timetables_judged};
+ghost use Rattle.replayer.specs.Timetables.{bound_on, limit_of, AreAtOnce, AreKnown, EachKnown, timetable_judged, timetables_judged};
 
 use crate::course::{Course, instr_on};
 use access_log::Item;
 use image_file::Image;
-use kmp_base::Setup;
+use kmp_base::{MachineKind, Setup};
 use mips_isa::Instr;
 use report_text::Report;
-use row_check::{Clocks, Difference, row_difference, stop_difference};
+use row_check::{Clocks, Difference, limit_for, row_difference, stop_difference};
 use timetable::{CoreEnd, End, TimeRow};
+
+/// How many cycles later than at once a word or an answer may come; none where there is no bound.
+pub(crate) fn bound_on(machine: MachineKind) -> Option<u32>
+    ensures { result ≡ bound_on machine }
+{
+    match machine {
+        MachineKind::Plain | MachineKind::Pipe => Some(0),
+        MachineKind::Full => None,
+    }
+}
 
 /// The clocks behind the instructions of a core, where their words and answers come at once.
 fn clocks_at_once(course: &mut Course<'_>) -> Clocks
@@ -46,7 +56,7 @@ pub(crate) fn done_behind(
 ) -> u32
     requires few { length course.old ≤ 100002 }
     requires proper { IsProperWhere instr }
-    requires known { AreKnown clocks.now course.old }
+    requires known { IfSome clocks.now (AreAtOnce course.old) }
     ensures value { result ≡ first_m (past_at_once [] course.old) instr }
 {
     match clocks {
@@ -67,6 +77,7 @@ pub(crate) struct Judged {
 /// Judges rows from a line on: those of the instructions of a core, and that of its stop.
 fn judge_rows(
     first_line: u32,
+    bound: Option<u32>,
     limit: Option<u32>,
     course: &mut Course<'_>,
     stop: Option<Instr>,
@@ -75,19 +86,21 @@ fn judge_rows(
     requires lines { first_line + length rows.now < 2 ^ 32 }
     requires proper { IsProperWhere stop }
     requires times { AllByRecursion AreTimes rows.now }
-    ensures told { result.told ≡ first_told (rows_judged first_line limit [] course.old stop rows.now) }
-    ensures clocks { AreKnown result.clocks course.old }
+    ensures told { result.told ≡ first_told (rows_judged first_line bound limit [] course.old stop rows.now) }
+    ensures clocks { AreKnown bound result.clocks course.old }
 {
     let mut clocks = Clocks::new();
+    let end_line = first_line + rows.len() as u32;
     let mut line = first_line;
     for row in rows {
         let Some(instr) = course.next_instr() else {
             return Judged {
-                told: stop_difference(line, &clocks, stop, row),
+                told: stop_difference(line, &clocks, bound, stop, row),
                 clocks: None,
             };
         };
-        if let Some(difference) = row_difference(line, &clocks, limit, instr, row) {
+        let limit = limit_for(bound, limit, line + 1 == end_line, row);
+        if let Some(difference) = row_difference(line, &clocks, bound, limit, instr, row) {
             return Judged {
                 told: Some(difference),
                 clocks: None,
@@ -125,12 +138,14 @@ fn judge_timetable(
     requires lines { line + length kept.now.rows.rows < 2 ^ 32 }
     requires times { AllByRecursion AreTimes kept.now.rows.rows }
     ensures told { result.told ≡ first_told (timetable_judged line setup.now image.now core (own (entries items.now) core) (end_value kept.now)) }
-    ensures clocks { AreKnown result.clocks (executed_by image.now core setup.now.cores (own (entries items.now) core) kept.now.retired) }
+    ensures clocks { AreKnown (bound_on setup.now.machine) result.clocks (executed_by image.now core setup.now.cores (own (entries items.now) core) kept.now.retired) }
 {
     let mut course = Course::new(image, items, core, setup.cores, kept.retired);
     let stop = instr_on(image, kept.state.dpc);
+    let bound = bound_on(setup.machine);
     let limit = limit_of(setup.budget, kept.end);
-    judge_rows(line, limit, &mut course, stop, kept.rows.as_slice())
+    let rows = kept.rows.as_slice();
+    judge_rows(line, bound, limit, &mut course, stop, rows)
 }
 
 /// What the timetables of the cores tell, at most eight.

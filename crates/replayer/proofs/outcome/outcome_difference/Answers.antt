@@ -1,13 +1,12 @@
-use Rattle.std.proofs.Common.{◌≡◌, ◌++◌, List, length, map, Option, None, Some, sym, ap, ◌∙◌, arith}
+use Rattle.std.proofs.Common.{◌≡◌, ℕ, ◌++◌, List, length, map, None, Some, sym, ap, ◌∙◌, arith}
+use Rattle.access_log.specs.declared.Item.{Item}
 use Rattle.access_log.specs.Items.{entries}
 use Rattle.access_log.specs.Replay.{FlatMachine}
 use Rattle.timetable.specs.declared.CoreEnd.{CoreEnd}
 use Rattle.report_rows.specs.Ends.{end_value}
 use Rattle.report_rows.specs.declared.MemoryWord.{MemoryWord}
-use Rattle.letters.specs.Caches.{Caches}
 use Rattle.right_run.specs.Right.{caches_of}
 use Rattle.report_text.specs.Counts.{counts_of}
-use Rattle.replayer.proofs.FlatLemmas.{no_caches}
 use Rattle.report_text.specs.Report.{ReportValue, words_past}
 use Rattle.row_check.specs.Judgments.{Judgment, first_told}
 use Rattle.replayer.specs.Lists.{words_judged, counts_judged}
@@ -32,6 +31,12 @@ tables report = timetables_judged (timetables_line report) report.setup report.i
 
 abbrev counts : ReportValue → List Judgment
 counts report = counts_judged (counts_line report) report.counts (counts_of (caches_of report.setup) report.cores report.items)
+
+-- the counts that are due, in other words
+counts_due : (given report : ReportValue) (items : List Item) (values : List ℕ) → given ≡ report → items ≡ given.items
+    → values ≡ counts_of (caches_of given.setup) given.cores items
+    → values ≡ counts_of (caches_of report.setup) report.cores report.items
+counts_due given report items values is items_are values_are = rw (items_are, is) at values_are
 
 pub cores_difference-requires-clause-cores : goal.cores_difference-requires-clause-cores
 cores_difference-requires-clause-cores c = c.requires.cores ∙ sym c.requires.form.cores
@@ -103,13 +108,11 @@ returns c =
     let machine = c.args.machine.now in
     let words_are : c.deref.result.now ≡ report.words = c.deref.ensures.value ∙ ap (λ (r : ReportValue). r.words) c.report.view_is in
     let code_is : c.report.inside.image.code ≡ report.image.code = ap (λ (r : ReportValue). r.image.code) c.report.view_is in
-    let due_is : c.counts_of-due.result.values ≡ counts_of (caches_of report.setup) report.cores report.items =
-    c.counts_of-due.ensures.counts
-    ∙ ap (λ (ends : List CoreEnd). counts_of None (map end_value ends) c.items.result.now) c.deref-2.ensures.value
-    ∙ ap (counts_of None (map end_value c.report.inside.cores.items)) c.items.ensures.items
-    ∙ ap (λ (r : ReportValue). counts_of None r.cores r.items) c.report.view_is
-    ∙ ap (λ (caches : Option Caches). counts_of caches report.cores report.items)
-    (sym (no_caches report.setup c.requires.form.header.machine)) in
+    let due_is : c.in_ok-due.due.values ≡ counts_of (caches_of report.setup) report.cores report.items =
+    counts_due _ report c.items.result.now c.in_ok-due.due.values c.report.view_is c.items.ensures.items
+    (c.in_ok-due.ensures.counts
+    ∙ ap (λ (ends : List CoreEnd). counts_of (caches_of c.report.inside.setup) (map end_value ends) c.items.result.now)
+    c.deref-2.ensures.value) in
     let counts_are : c.report.inside.counts.values ≡ report.counts = ap (λ (r : ReportValue). r.counts) c.report.view_is in
     let none_before : first_told (cores report machine ++ words report machine) ≡ None =
     first_behind (cores report machine) (words report machine) (sym (rw c.cores_line.ensures at c.in_default.ensures.first))
