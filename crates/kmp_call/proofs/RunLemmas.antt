@@ -1,8 +1,8 @@
 -- The report of a right outcome.
-use Rattle.std.proofs.Common.{◌≡◌, Result, Ok, Err, List, [], ◌∷◌, refl, ap, subst}
+use Rattle.std.proofs.Common.{◌≡◌, ◌≤◌, Result, Ok, Err, List, [], ◌∷◌, refl, ap, subst}
 use Rattle.std.specs.Prelude.{IfOk, map}
 use Rattle.kmp_base.specs.declared.setup.Setup.{Setup}
-use Rattle.kmp_base.specs.Machines.{IsUncached}
+use Rattle.kmp_base.specs.Machines.{most_ways}
 use Rattle.image_file.specs.Value.{ImageValue}
 use Rattle.access_log.specs.Items.{entries}
 use Rattle.timetable.specs.declared.CoreEnd.{CoreEnd}
@@ -45,9 +45,10 @@ is_report_of setup image outcome right turns form = record {
 
 pub reported : {E : Type 0} (setup : Setup) (image : ImageValue) (outcome : OutcomeValue) (result : Result ReportValue E)
     → IfOk result (λ report. report ≡ report_of setup image outcome)
-    → IfOk result (λ report. IsUncached setup.machine → IsRight setup image outcome → IsReport report) → IsUncached setup.machine
+    → IfOk result (λ report. setup.ways ≤ most_ways setup.machine → IsRight setup image outcome → IsReport report)
+    → setup.ways ≤ most_ways setup.machine
     → IsRight setup image outcome → IsInTurns setup (cycles_of outcome.cores) (tables_of outcome.cores) (entries outcome.items)
     → IfOk result (IsReportOf setup image)
-reported setup image outcome (Ok report) is form uncached right turns =
-    rw is (is_report_of setup image outcome right turns (subst IsReport is (form uncached right)))
-reported setup image outcome (Err fault) is form uncached right turns = tt
+reported setup image outcome (Ok report) is form ways right turns =
+    rw is (is_report_of setup image outcome right turns (subst IsReport is (form ways right)))
+reported setup image outcome (Err fault) is form ways right turns = tt

@@ -1,8 +1,9 @@
 //! The report of a run, whatever engine and turns it went by.
-ghost use Rattle.std.specs.Prelude.{◌≡◌, ◌⊎◌, ◌*◌, length, Ok, IfOk};
+ghost use Rattle.std.specs.Prelude.{◌≡◌, ◌⊎◌, ◌*◌, ◌<◌, ◌≤◌, length, Ok, IfOk};
+ghost use Rattle.std.specs.List.{AllByRecursion};
 ghost use Rattle.kmp_base.specs.Limits.{IsWithinLimits};
-ghost use Rattle.kmp_base.specs.Machines.{IsUncached};
-ghost use Rattle.access_log.specs.Items.{entries};
+ghost use Rattle.kmp_base.specs.Machines.{most_ways};
+ghost use Rattle.access_log.specs.Items.{entries, transactions};
 ghost use Rattle.right_run.specs.Right.{IsRight};
 ghost use Rattle.right_run.specs.Turns.{IsInTurns, cycles_of, tables_of};
 ghost use Rattle.report_text.specs.Text.{report_text};
@@ -27,11 +28,12 @@ pub fn report_run(
     ran: Result<Outcome, NoMemory>,
 ) -> Result<Report, NoMemory>
     requires limits { IsWithinLimits setup.now }
-    requires uncached { IsUncached setup.now.machine }
+    requires ways { setup.now.ways ≤ most_ways setup.now.machine }
     requires right { IfOk ran (IsRight setup.now image) }
     requires turns { IfOk ran (λ outcome. IsInTurns setup.now (cycles_of outcome.cores) (tables_of outcome.cores) (entries outcome.items)) }
     requires cores { IfOk ran (λ outcome. length outcome.cores ≡ setup.now.cores) }
     requires words { IfOk ran (λ outcome. length outcome.words ≡ 2 * image.memory_lines) }
+    requires lines { IfOk ran (λ outcome. AllByRecursion (λ bus. bus.line < image.memory_lines) (transactions outcome.items)) }
     ensures report { IfOk result (λ report. IsReportOf setup.now image report) }
 {
     let outcome = ran?;
@@ -54,11 +56,12 @@ pub fn write_run<K: Sink>(
     sink: &mut K,
 ) -> Status
     requires limits { IsWithinLimits setup.now }
-    requires uncached { IsUncached setup.now.machine }
+    requires ways { setup.now.ways ≤ most_ways setup.now.machine }
     requires right { IfOk ran (IsRight setup.now image) }
     requires turns { IfOk ran (λ outcome. IsInTurns setup.now (cycles_of outcome.cores) (tables_of outcome.cores) (entries outcome.items)) }
     requires cores { IfOk ran (λ outcome. length outcome.cores ≡ setup.now.cores) }
     requires words { IfOk ran (λ outcome. length outcome.words ≡ 2 * image.memory_lines) }
+    requires lines { IfOk ran (λ outcome. AllByRecursion (λ bus. bus.line < image.memory_lines) (transactions outcome.items)) }
     ensures written { Finishes K.held K.faults sink.old sink.new (IsRunDue setup.now (Ok image)) result ⊎ RunsOut sink.old sink.new result }
 {
     match report_run(alloc, setup, image, ran) {

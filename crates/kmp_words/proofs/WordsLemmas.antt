@@ -1,14 +1,18 @@
 -- What options come to.
 use Rattle.std.proofs.Common.{◌≡◌, ℕ, ◌+◌, ◌^◌, ◌<◌, ◌≤◌, Bool, true, false, List, Bor, length, get_or, drop, [], ◌∷◌, Option, Some, None}
-use Rattle.std.proofs.Common.{◌⊎◌, option_and_then, option_map, Result, Ok, Err, codes, decimal, refl, sym, subst, inl, inr, arith}
+use Rattle.std.proofs.Common.{◌⊎◌, option_and_then, option_map, Result, Ok, Err, codes, decimal, refl, sym, ap, ◌∙◌, subst, inl, inr, arith, zero, suc}
 use Rattle.kmp_base.specs.Limits.{IsWithinLimits}
-use Rattle.kmp_base.specs.Machines.{IsUncached}
+use Rattle.kmp_base.specs.Machines.{most_ways}
 use Rattle.std.specs.Prelude.{IfSome, is_some, nat_lt, nat_le, ◌&&◌, if◌then◌else◌}
 use Rattle.std.specs.Str.{bytes_eq}
 use Rattle.std.specs.Str.Parse.{digits_value}
 use Rattle.std.specs.Option.{option_len, option_map_or, ok_or}
 use Rattle.std.proofs.lemmas.Fmt.{decimal_is_IsNumeral}
-use Rattle.std.proofs.lemmas.Bool.{false_from_ne_true}
+use Rattle.std.specs.Prelude.{◌==◌, ◌||◌, not}
+use Rattle.std.specs.List.{range_with_len}
+use Rattle.std.specs.Int.{is_power_of_two}
+use Rattle.std.proofs.lemmas.Bool.{false_from_ne_true, or_cases, and_parts, cases_eq, both_ways, not-true, eqb-true}
+use Rattle.kmp_base.specs.declared.setup.MachineKind.{MachineKind}
 use Rattle.std.proofs.lemmas.Bool.Decides.{nat_tests}
 use Rattle.std.proofs.lemmas.Option.{cond_some, same_Some}
 use Rattle.std_laws.proofs.OptionLaws.{option_len_none}
@@ -29,7 +33,7 @@ use Rattle.kmp_words.specs.declared.fault.WordFault.{WordFault}
 use Rattle.kmp_words.specs.declared.fault.WordCause.TheVariants.{UnknownOption, OptionTwice, BadValue}
 use Rattle.kmp_base.specs.Bind.{◌>>=◌}
 use Rattle.kmp_words.specs.Words.{name_in, value_in, number_in, lines_of, no_options, options_of, stands_in, with_option, at_word}
-use Rattle.kmp_words.specs.Words.{fault_where, option_in, options_from, number_within, machine_names, turns_names, or_default, setup_of}
+use Rattle.kmp_words.specs.Words.{fault_where, option_in, options_from, number_within, sets_in, machine_names, turns_names, or_default, setup_of}
 use Rattle.kmp_words.specs.Words.{memory_lines, input_of, order_of, command_names, texts_of, AreTurnsOf, IsProperInput, IsRunnable}
 
 -- a text that isn't a name differs from it
@@ -71,7 +75,28 @@ no_number_within least most text few none =
 abbrev pub count_of : Options → ℕ
 count_of options =
     option_len options.machine + option_len options.cores + option_len options.budget + option_len options.turns
-    + option_len options.seed + option_len options.size + option_len options.memory + option_len options.image
+    + option_len options.seed + option_len options.sets + option_len options.ways + option_len options.size + option_len options.memory + option_len options.image
+
+one_at_most : {A : Type 0} (option : Option A) → option_len option ≤ 1
+one_at_most None = omega arith
+one_at_most (Some value) = omega arith
+
+-- no more stand than there are
+pub count_few : (options : Options) → count_of options ≤ 10
+count_few options =
+    omega (
+      arith,
+      one_at_most options.machine,
+      one_at_most options.cores,
+      one_at_most options.budget,
+      one_at_most options.turns,
+      one_at_most options.seed,
+      one_at_most options.sets,
+      one_at_most options.ways,
+      one_at_most options.size,
+      one_at_most options.memory,
+      one_at_most options.image,
+    )
 
 -- an option that has a value is put
 record Puts {A : Type 0} (put : A → Options) (value : Option A) (more : Options) : Type 0 where
@@ -100,6 +125,12 @@ with_counts options more names.Turns word (Some text) once is =
 with_counts options more names.Seed word (Some text) once is =
     let p = puts_of (λ seed. record options { seed = Some seed }) (number_within 0 4294967295 text) more is in
     let none = option_len_none options.seed once in rw p.puts (omega (arith, none))
+with_counts options more names.Sets word (Some text) once is =
+    let p = puts_of (λ sets. record options { sets = Some sets }) (sets_in text) more is in
+    let none = option_len_none options.sets once in rw p.puts (omega (arith, none))
+with_counts options more names.Ways word (Some text) once is =
+    let p = puts_of (λ ways. record options { ways = Some ways }) (number_within 1 1 text) more is in
+    let none = option_len_none options.ways once in rw p.puts (omega (arith, none))
 with_counts options more names.Size word (Some text) once is =
     let p = puts_of (λ size. record options { size = Some size }) (number_within 0 1000 text) more is in
     let none = option_len_none options.size once in rw p.puts (omega (arith, none))
@@ -114,6 +145,8 @@ with_counts options more names.Cores word None once is = absurd cc
 with_counts options more names.Budget word None once is = absurd cc
 with_counts options more names.Turns word None once is = absurd cc
 with_counts options more names.Seed word None once is = absurd cc
+with_counts options more names.Sets word None once is = absurd cc
+with_counts options more names.Ways word None once is = absurd cc
 with_counts options more names.Size word None once is = absurd cc
 with_counts options more names.Memory word None once is = absurd cc
 with_counts options more names.Image word (Some text) once is = absurd cc
@@ -153,12 +186,64 @@ pub counts : (command : Command) (word : ℕ) (text : List ℕ) (options more : 
 counts command word text options more is = let a =
     adds command word text options more is in with_counts options more a.name word (value_in text) a.once a.puts
 
+-- ---- powers of two
+
+-- whether it is two to one of some powers
+abbrev is_one_of : List ℕ → ℕ → Bool
+is_one_of [] n = false
+is_one_of (k ∷ ks) n = n == 2 ^ k || is_one_of ks n
+
+abbrev is_listed : ℕ → Bool
+is_listed n = is_one_of (range_with_len 0 9) n
+
+listed : (n : ℕ) (ks : List ℕ) → is_one_of ks n ≡ true → (k : ℕ) × (n ≡ 2 ^ k)
+listed n [] is = absurd (both_ways false refl is)
+listed n (k ∷ ks) is = elim (or_cases (n == 2 ^ k) (is_one_of ks n) is) [
+  | inl here ↦ (k, eqb-true n (2 ^ k) here)
+  | inr there ↦ listed n ks there
+]
+
+-- whether each number below a bound with one bit set is a power of two
+abbrev are_listed : ℕ → Bool
+are_listed zero = true
+are_listed (suc n) = (not (is_power_of_two n) || is_listed n) && are_listed n
+
+all_listed : are_listed 257 ≡ true
+unfolding lib.Count.ones
+all_listed = refl
+
+listed_below : (bound n : ℕ) → are_listed bound ≡ true → n < bound → is_power_of_two n ≡ true → is_listed n ≡ true
+listed_below zero n all below is = absurd (omega arith)
+listed_below (suc bound) n all below is =
+    let parts = and_parts (not (is_power_of_two bound) || is_listed bound) (are_listed bound) all in
+    elim (cases_eq n bound) as (λ _. is_listed n ≡ true) [
+      | inl same ↦ elim (or_cases (not (is_power_of_two bound)) (is_listed bound) parts.0) as (λ _. is_listed n ≡ true) [
+        | inl isnt ↦ absurd (both_ways (is_power_of_two bound) (not-true (is_power_of_two bound) isnt) (ap is_power_of_two (sym same) ∙ is))
+        | inr so ↦ ap is_listed same ∙ so
+      ]
+      | inr other ↦ listed_below bound n parts.1 (omega arith) is
+    ]
+
+-- what may be the sets of a cache
+abbrev AreSets : ℕ → Type 0
+AreSets sets = ((k : ℕ) × (sets ≡ 2 ^ k)) × (sets ≤ 256)
+
+sets_proper : (number : Option ℕ) (sets : ℕ)
+    → option_and_then (λ sets. if is_power_of_two sets then Some sets else None) number ≡ Some sets
+    → ((n : ℕ) → number ≡ Some n → (1 ≤ n) × (n ≤ 256)) → AreSets sets
+sets_proper None sets is within = absurd cc
+sets_proper (Some n) sets is within =
+    let parts = cond_some (is_power_of_two n) n sets is in
+    let few = (within n refl).1 in
+    subst AreSets parts.1 (listed n (range_with_len 0 9) (listed_below 257 n all_listed (omega (arith, few)) parts.0), few)
+
 -- the values of options are within their bounds
 pub record AreProper (options : Options) : Type 0 where
-  pub machine_is : IfSome options.machine IsUncached
   pub cores_are : IfSome options.cores (λ cores. (1 ≤ cores) × (cores ≤ 8))
   pub budget_is : IfSome options.budget (λ budget. (1 ≤ budget) × (budget ≤ 100000))
   pub turns_are : IfSome options.turns (AreTurnsOf programs.Kmp)
+  pub sets_are : IfSome options.sets AreSets
+  pub ways_are : IfSome options.ways (λ ways. (1 ≤ ways) × (ways ≤ 1))
   pub size_is : IfSome options.size (λ size. size ≤ 1000)
   pub memory_is : IfSome options.memory (λ m. IsProperInput (inputs.Source m.0))
 
@@ -186,80 +271,110 @@ with_proper : (options more : Options) (name : OptionName) (word : ℕ) (value :
 with_proper options more names.Machine word (Some text) is before =
     let p = puts_of (λ kind. record options { machine = Some kind }) (named machine_names text) more is in
     rw p.puts (record {
-      machine_is = two_values _ _ machines.Plain machines.Pipe p.it p.is;
       cores_are = before.cores_are;
       budget_is = before.budget_is;
       turns_are = before.turns_are;
+      sets_are = before.sets_are;
+      ways_are = before.ways_are;
       size_is = before.size_is;
       memory_is = before.memory_is;
     })
 with_proper options more names.Cores word (Some text) is before =
     let p = puts_of (λ cores. record options { cores = Some cores }) (number_within 1 8 text) more is in
     rw p.puts (record {
-      machine_is = before.machine_is;
       cores_are = within_bounds 1 8 (number_in text) p.it p.is;
       budget_is = before.budget_is;
       turns_are = before.turns_are;
+      sets_are = before.sets_are;
+      ways_are = before.ways_are;
       size_is = before.size_is;
       memory_is = before.memory_is;
     })
 with_proper options more names.Budget word (Some text) is before =
     let p = puts_of (λ budget. record options { budget = Some budget }) (number_within 1 100000 text) more is in
     rw p.puts (record {
-      machine_is = before.machine_is;
       cores_are = before.cores_are;
       budget_is = within_bounds 1 100000 (number_in text) p.it p.is;
       turns_are = before.turns_are;
+      sets_are = before.sets_are;
+      ways_are = before.ways_are;
       size_is = before.size_is;
       memory_is = before.memory_is;
     })
 with_proper options more names.Turns word (Some text) is before =
     let p = puts_of (λ order. record options { turns = Some order }) (named turns_names text) more is in
     rw p.puts (record {
-      machine_is = before.machine_is;
       cores_are = before.cores_are;
       budget_is = before.budget_is;
       turns_are = two_values _ _ turns.Round turns.Seeded p.it p.is;
+      sets_are = before.sets_are;
+      ways_are = before.ways_are;
       size_is = before.size_is;
       memory_is = before.memory_is;
     })
 with_proper options more names.Seed word (Some text) is before =
     let p = puts_of (λ seed. record options { seed = Some seed }) (number_within 0 4294967295 text) more is in
     rw p.puts (record {
-      machine_is = before.machine_is;
       cores_are = before.cores_are;
       budget_is = before.budget_is;
       turns_are = before.turns_are;
+      sets_are = before.sets_are;
+      ways_are = before.ways_are;
+      size_is = before.size_is;
+      memory_is = before.memory_is;
+    })
+with_proper options more names.Sets word (Some text) is before =
+    let p = puts_of (λ sets. record options { sets = Some sets }) (sets_in text) more is in
+    rw p.puts (record {
+      cores_are = before.cores_are;
+      budget_is = before.budget_is;
+      turns_are = before.turns_are;
+      sets_are = sets_proper (number_within 1 256 text) p.it p.is (within_bounds 1 256 (number_in text));
+      ways_are = before.ways_are;
+      size_is = before.size_is;
+      memory_is = before.memory_is;
+    })
+with_proper options more names.Ways word (Some text) is before =
+    let p = puts_of (λ ways. record options { ways = Some ways }) (number_within 1 1 text) more is in
+    rw p.puts (record {
+      cores_are = before.cores_are;
+      budget_is = before.budget_is;
+      turns_are = before.turns_are;
+      sets_are = before.sets_are;
+      ways_are = within_bounds 1 1 (number_in text) p.it p.is;
       size_is = before.size_is;
       memory_is = before.memory_is;
     })
 with_proper options more names.Size word (Some text) is before =
     let p = puts_of (λ size. record options { size = Some size }) (number_within 0 1000 text) more is in
     rw p.puts (record {
-      machine_is = before.machine_is;
       cores_are = before.cores_are;
       budget_is = before.budget_is;
       turns_are = before.turns_are;
+      sets_are = before.sets_are;
+      ways_are = before.ways_are;
       size_is = (within_bounds 0 1000 (number_in text) p.it p.is).1;
       memory_is = before.memory_is;
     })
 with_proper options more names.Memory word (Some text) is before =
     let p = puts_of (λ lines. record options { memory = Some (lines, word) }) (option_and_then lines_of (number_in text)) more is in
     rw p.puts (record {
-      machine_is = before.machine_is;
       cores_are = before.cores_are;
       budget_is = before.budget_is;
       turns_are = before.turns_are;
+      sets_are = before.sets_are;
+      ways_are = before.ways_are;
       size_is = before.size_is;
       memory_is = memory_proper (number_in text) p.it p.is;
     })
 with_proper options more names.Image word None is before =
     let this : more ≡ record options { image = Some word } = cc in
     rw this (record {
-      machine_is = before.machine_is;
       cores_are = before.cores_are;
       budget_is = before.budget_is;
       turns_are = before.turns_are;
+      sets_are = before.sets_are;
+      ways_are = before.ways_are;
       size_is = before.size_is;
       memory_is = before.memory_is;
     })
@@ -268,6 +383,8 @@ with_proper options more names.Cores word None is before = absurd cc
 with_proper options more names.Budget word None is before = absurd cc
 with_proper options more names.Turns word None is before = absurd cc
 with_proper options more names.Seed word None is before = absurd cc
+with_proper options more names.Sets word None is before = absurd cc
+with_proper options more names.Ways word None is before = absurd cc
 with_proper options more names.Size word None is before = absurd cc
 with_proper options more names.Memory word None is before = absurd cc
 with_proper options more names.Image word (Some text) is before = absurd cc
@@ -293,7 +410,7 @@ pub options_proper : (command : Command) (texts : List (List ℕ)) (options : Op
     → AreProper options
 options_proper command texts options is =
     from_proper command 2 no_options options texts is
-    (record { machine_is = tt; cores_are = tt; budget_is = tt; turns_are = tt; size_is = tt; memory_is = tt })
+    (record { cores_are = tt; budget_is = tt; turns_are = tt; sets_are = tt; ways_are = tt; size_is = tt; memory_is = tt })
 
 lines_within : (memory : Option (ℕ × ℕ)) → IfSome memory (λ m. IsProperInput (inputs.Source m.0))
     → IsProperInput (inputs.Source (option_map_or (λ m. m.0) memory 8192))
@@ -314,19 +431,28 @@ setup_limits : (options : Options) → AreProper options → IsWithinLimits (set
 setup_limits options proper =
     let cores = meant (λ n. (1 ≤ n) × (n ≤ 8)) 1 options.cores (omega arith, omega arith) proper.cores_are in
     let budget = meant (λ n. (1 ≤ n) × (n ≤ 100000)) 20000 options.budget (omega arith, omega arith) proper.budget_is in
+    let sets = meant AreSets 16 options.sets ((4, refl), omega arith) proper.sets_are in
+    let ways = meant (λ n. (1 ≤ n) × (n ≤ 1)) 1 options.ways (omega arith, omega arith) proper.ways_are in
     record {
       some_cores = cores.0;
       cores = cores.1;
       some_budget = budget.0;
       budget = budget.1;
-      power_of_two = (4, refl);
-      sets = omega arith;
-      some_ways = omega arith;
-      ways = omega arith;
+      power_of_two = sets.0;
+      sets = sets.1;
+      some_ways = ways.0;
+      ways = omega (arith, ways.1);
     }
 
-setup_uncached : (options : Options) → AreProper options → IsUncached (setup_of options).machine
-setup_uncached options proper = meant IsUncached machines.Pipe options.machine (inr refl) proper.machine_is
+one_way_at_most : (machine : MachineKind) (ways : ℕ) → ways ≤ 1 → ways ≤ most_ways machine
+one_way_at_most machines.Full ways few = few
+one_way_at_most machines.Plain ways few = omega arith
+one_way_at_most machines.Pipe ways few = omega arith
+
+setup_ways : (options : Options) → AreProper options → (setup_of options).ways ≤ most_ways (setup_of options).machine
+setup_ways options proper =
+    one_way_at_most (setup_of options).machine (setup_of options).ways
+    (meant (λ n. (1 ≤ n) × (n ≤ 1)) 1 options.ways (omega arith, omega arith) proper.ways_are).1
 
 input_is_proper : (options : Options) → AreProper options → IsProperInput (input_of options)
 input_is_proper options proper = input_proper options.image (memory_lines options) (lines_within options.memory proper.memory_is)
@@ -365,7 +491,7 @@ pub order_runnable : (program : Program) (command : Command) (options : Options)
 order_runnable programs.Kmp commands.Run options is proper = (
   record {
     limits = setup_limits options proper;
-    uncached = setup_uncached options proper;
+    ways = setup_ways options proper;
     turns = meant (AreTurnsOf programs.Kmp) turns.Round options.turns (inl refl) proper.turns_are;
   },
   input_is_proper options proper,
@@ -382,7 +508,7 @@ order_runnable programs.KmpMp commands.RunOnThreads options is proper = (
       some_ways = limits.some_ways;
       ways = limits.ways;
     };
-    uncached = setup_uncached options proper;
+    ways = setup_ways options proper;
     turns = refl;
   },
   input_is_proper options proper,
@@ -392,7 +518,7 @@ order_runnable programs.Kmp commands.Replay options is proper = tt
 order_runnable programs.Kmp commands.Trial options is proper = (
   record {
     limits = setup_limits options proper;
-    uncached = setup_uncached options proper;
+    ways = setup_ways options proper;
     turns = meant (AreTurnsOf programs.Kmp) turns.Round options.turns (inl refl) proper.turns_are;
   },
   meant (λ size. size ≤ 1000) 100 options.size (omega arith) proper.size_is,

@@ -7,6 +7,7 @@ use Rattle.std.specs.Borrow.{Bor}
 use Rattle.std.specs.Option.{ok_or, option_map_or}
 use Rattle.std.specs.Str.{bytes_eq}
 use Rattle.std.specs.Str.Parse.{digits_value}
+use Rattle.std.specs.Int.{is_power_of_two}
 use Rattle.kmp_base.specs.Bind.{◌>>=◌}
 use Rattle.kmp_base.specs.Names.{with_names, machine_name, turns_name}
 use Rattle.kmp_base.specs.declared.setup.Setup.{Setup}
@@ -19,7 +20,7 @@ use Rattle.kmp_base.specs.Names.{named}
 use Rattle.kmp_words.specs.declared.order.Order.{Order}
 use Rattle.kmp_words.specs.declared.order.Order.TheVariants as orders
 use Rattle.kmp_base.specs.Limits.{IsWithinLimits}
-use Rattle.kmp_base.specs.Machines.{IsUncached}
+use Rattle.kmp_base.specs.Machines.{most_ways}
 use Rattle.kmp_words.specs.declared.input.Input.{Input}
 use Rattle.kmp_words.specs.declared.input.Input.TheVariants as inputs
 use Rattle.kmp_words.specs.declared.options.Command.{Command}
@@ -50,6 +51,8 @@ machine_options =
     ∷ (codes "--cores", names.Cores)
     ∷ (codes "--budget", names.Budget)
     ∷ (codes "--seed", names.Seed)
+    ∷ (codes "--sets", names.Sets)
+    ∷ (codes "--ways", names.Ways)
     ∷ []
 
 -- the options of a run whose cores are on threads
@@ -88,15 +91,30 @@ abbrev pub number_within : ℕ → ℕ → List ℕ → Option ℕ
 number_within least most text =
     option_and_then (λ number. if nat_le least number && nat_le number most then Some number else None) (number_in text)
 
+-- the sets of a cache that a text spells: a power of two from 1 to 256
+abbrev pub sets_in : List ℕ → Option ℕ
+sets_in text = option_and_then (λ sets. if is_power_of_two sets then Some sets else None) (number_within 1 256 text)
+
 abbrev pub machine_names : List (List ℕ × MachineKind)
-machine_names = with_names machine_name (machines.Plain ∷ machines.Pipe ∷ [])
+machine_names = with_names machine_name (machines.Plain ∷ machines.Pipe ∷ machines.Full ∷ [])
 
 abbrev pub turns_names : List (List ℕ × Turns)
 turns_names = with_names turns_name (turns.Round ∷ turns.Seeded ∷ [])
 
 -- no option
 abbrev pub no_options : Options
-no_options = record { machine = None; cores = None; budget = None; turns = None; seed = None; size = None; memory = None; image = None }
+no_options = record {
+  machine = None;
+  cores = None;
+  budget = None;
+  turns = None;
+  seed = None;
+  sets = None;
+  ways = None;
+  size = None;
+  memory = None;
+  image = None;
+}
 
 -- whether an option stands already
 abbrev pub stands_in : Options → OptionName → Bool
@@ -105,6 +123,8 @@ stands_in options names.Cores = is_some options.cores
 stands_in options names.Budget = is_some options.budget
 stands_in options names.Turns = is_some options.turns
 stands_in options names.Seed = is_some options.seed
+stands_in options names.Sets = is_some options.sets
+stands_in options names.Ways = is_some options.ways
 stands_in options names.Size = is_some options.size
 stands_in options names.Memory = is_some options.memory
 stands_in options names.Image = is_some options.image
@@ -121,6 +141,10 @@ with_option options names.Turns word (Some text) =
     option_map (λ turns. record options { turns = Some turns }) (named turns_names text)
 with_option options names.Seed word (Some text) =
     option_map (λ seed. record options { seed = Some seed }) (number_within 0 4294967295 text)
+with_option options names.Sets word (Some text) =
+    option_map (λ sets. record options { sets = Some sets }) (sets_in text)
+with_option options names.Ways word (Some text) =
+    option_map (λ ways. record options { ways = Some ways }) (number_within 1 (most_ways machines.Full) text)
 with_option options names.Size word (Some text) =
     option_map (λ size. record options { size = Some size }) (number_within 0 1000 text)
 with_option options names.Memory word (Some text) =
@@ -160,14 +184,14 @@ or_default default option = option_map_or (λ value. value) option default
 -- the setup of a run
 abbrev pub setup_of : Options → Setup
 setup_of options = record {
-  machine = or_default machines.Pipe options.machine;
+  machine = or_default machines.Full options.machine;
   cores = or_default 1 options.cores;
   budget = or_default 20000 options.budget;
   policy = policies.Fifo;
   turns = or_default turns.Round options.turns;
   seed = or_default 0 options.seed;
-  sets = 16;
-  ways = 1;
+  sets = or_default 16 options.sets;
+  ways = or_default 1 options.ways;
 }
 
 -- the lines of memory, of 8 bytes each; 65,536 bytes where no option says otherwise
@@ -212,10 +236,10 @@ abbrev pub AreTurnsOf : Program → Turns → Type 0
 AreTurnsOf programs.Kmp order = (order ≡ turns.Round) ⊎ (order ≡ turns.Seeded)
 AreTurnsOf programs.KmpMp order = order ≡ turns.Threads
 
--- What a run of a program can be asked for by now: cores over flat memory.
+-- What a run of a program can be asked for by now: caches are direct-mapped.
 pub record IsRunnableSetup (program : Program) (setup : Setup) : Type 0 where
   pub limits : IsWithinLimits setup
-  pub uncached : IsUncached setup.machine
+  pub ways : setup.ways ≤ most_ways setup.machine
   pub turns : AreTurnsOf program setup.turns
 
 -- an order that the program can carry out

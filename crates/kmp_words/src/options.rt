@@ -1,10 +1,13 @@
 //! Commands and their options.
 ghost use Rattle.std.specs.Prelude.{◌≡◌, option_and_then, option_copied};
 ghost use Rattle.kmp_base.specs.Names.{named};
-ghost use Rattle.kmp_words.specs.Words.{command_names, options_of, machine_options, number_in, lines_of, number_within, machine_names, turns_names, stands_in, with_option, excluded_at, memory_lines, or_default, setup_of};
+ghost use Rattle.kmp_words.specs.Words.{command_names, options_of, machine_options, number_in, lines_of, number_within, sets_in, machine_names};
+ghost use Rattle.kmp_words.specs.Words.{turns_names, stands_in, with_option, excluded_at, memory_lines, or_default, setup_of};
 
 use crate::program::Program;
-use kmp_base::{MOST_BUDGET, MOST_CORES, MachineKind, Policy, Setup, Turns, decimal_of, named};
+use kmp_base::{
+    MOST_BUDGET, MOST_CORES, MOST_SETS, MachineKind, Policy, Setup, Turns, decimal_of, named,
+};
 
 #[derive(Clone, Copy)]
 pub enum Command {
@@ -29,6 +32,10 @@ pub enum OptionName {
     Turns,
     /// `--seed=N`: where what is drawn begins.
     Seed,
+    /// `--sets=N`: so many sets in each cache.
+    Sets,
+    /// `--ways=N`: so many lines in each set.
+    Ways,
     /// `--size=N`: so many blocks of a drawn source.
     Size,
     /// `--memory=N`: so many bytes of memory.
@@ -45,6 +52,8 @@ pub struct Options {
     pub budget: Option<u32>,
     pub turns: Option<Turns>,
     pub seed: Option<u32>,
+    pub sets: Option<u32>,
+    pub ways: Option<u32>,
     pub size: Option<u32>,
     /// The lines of memory, and the number of the word that says so.
     pub memory: Option<(u32, u32)>,
@@ -141,6 +150,8 @@ fn machine_option(name: &str) -> Option<OptionName>
         "--cores" => Some(OptionName::Cores),
         "--budget" => Some(OptionName::Budget),
         "--seed" => Some(OptionName::Seed),
+        "--sets" => Some(OptionName::Sets),
+        "--ways" => Some(OptionName::Ways),
         _ => None,
     }
 }
@@ -158,7 +169,7 @@ fn asm_option(name: &str) -> Option<OptionName>
 fn machine_named(name: &str) -> Option<MachineKind>
     ensures value { result ≡ named machine_names name.now }
 {
-    let machines = [MachineKind::Plain, MachineKind::Pipe];
+    let machines = [MachineKind::Plain, MachineKind::Pipe, MachineKind::Full];
     named(
         &machines.map(|machine| (machine.name(), machine)),
         name.as_bytes(),
@@ -181,6 +192,18 @@ fn number_within(least: u32, most: u32, text: &str) -> Option<u32>
     let number = decimal_of(text.as_bytes())?;
     if (u64::from(least)..=u64::from(most)).contains(&number) {
         Some(number as u32)
+    } else {
+        None
+    }
+}
+
+/// The sets that a text spells, where these are a power of two that a cache may have.
+fn sets_in(text: &str) -> Option<u32>
+    ensures value { result ≡ sets_in text.now }
+{
+    let sets = number_within(1, MOST_SETS, text)?;
+    if sets.is_power_of_two() {
+        Some(sets)
     } else {
         None
     }
@@ -212,6 +235,8 @@ impl Options {
         budget: None,
         turns: None,
         seed: None,
+        sets: None,
+        ways: None,
         size: None,
         memory: None,
         image: None,
@@ -227,6 +252,8 @@ impl Options {
             OptionName::Budget => self.budget.is_some(),
             OptionName::Turns => self.turns.is_some(),
             OptionName::Seed => self.seed.is_some(),
+            OptionName::Sets => self.sets.is_some(),
+            OptionName::Ways => self.ways.is_some(),
             OptionName::Size => self.size.is_some(),
             OptionName::Memory => self.memory.is_some(),
             OptionName::Image => self.image.is_some(),
@@ -256,6 +283,14 @@ impl Options {
             }),
             (OptionName::Seed, Some(text)) => Some(Options {
                 seed: Some(number_within(0, u32::MAX, text)?),
+                ..self
+            }),
+            (OptionName::Sets, Some(text)) => Some(Options {
+                sets: Some(sets_in(text)?),
+                ..self
+            }),
+            (OptionName::Ways, Some(text)) => Some(Options {
+                ways: Some(number_within(1, MachineKind::Full.most_ways(), text)?),
                 ..self
             }),
             (OptionName::Size, Some(text)) => Some(Options {
@@ -309,14 +344,14 @@ impl Options {
         ensures value { result ≡ setup_of self.now }
     {
         Setup {
-            machine: self.machine.unwrap_or(MachineKind::Pipe),
+            machine: self.machine.unwrap_or(MachineKind::Full),
             cores: self.cores.unwrap_or(1),
             budget: self.budget.unwrap_or(20_000),
             policy: Policy::Fifo,
             turns: self.turns.unwrap_or(Turns::Round),
             seed: self.seed.unwrap_or(0),
-            sets: 16,
-            ways: 1,
+            sets: self.sets.unwrap_or(16),
+            ways: self.ways.unwrap_or(1),
         }
     }
 }

@@ -89,12 +89,14 @@ fn order_of(command: Command, options: Options) -> Order
 ///
 /// The first word is the command: `run`, and for `kmp` also `asm`, `replay` and `trial`. Each later one is an option, which may
 /// stand once; `replay` has none. `--memory=N` is for `run` and `asm`: N bytes of memory, a multiple of 8 from 16 to
-/// 16,777,216, and 65,536 where it doesn't stand. For `run` and `trial` are `--machine=pipe`, cores with five stages, also where
-/// it doesn't stand, or `--machine=plain`, unpipelined ones; `--cores=N`, from 1 to 8, and 1 where it doesn't stand;
-/// `--budget=N`, cycles for each core from 1 to 100,000, and 20,000 where it doesn't stand; `--seed=N`, any number of 32 bits,
-/// and 0 where it doesn't stand; and for `kmp` `--turns=round`, also where it doesn't stand, or `--turns=seeded`. `run` has
-/// `--image`, where it reads an image, and `trial` `--size=N`, from 0 to 1000 blocks, and 100 where it doesn't stand. The first
-/// fault from the left answers, and behind them that `--memory` and `--image` exclude each other.
+/// 16,777,216, and 65,536 where it doesn't stand. For `run` and `trial` are `--machine=full`, cores with five stages over caches
+/// and a bus, also where it doesn't stand, `--machine=pipe`, such cores over flat memory, or `--machine=plain`, unpipelined ones;
+/// `--cores=N`, from 1 to 8, and 1 where it doesn't stand; `--budget=N`, cycles for each core from 1 to 100,000, and 20,000 where
+/// it doesn't stand; `--seed=N`, any number of 32 bits, and 0 where it doesn't stand; `--sets=N`, of each cache, a power of two
+/// from 1 to 256, and 16 where it doesn't stand; `--ways=1`, lines in each set, also where it doesn't stand; and for `kmp`
+/// `--turns=round`, also where it doesn't stand, or `--turns=seeded`. `run` has `--image`, where it reads an image, and `trial`
+/// `--size=N`, from 0 to 1000 blocks, and 100 where it doesn't stand. The first fault from the left answers, and behind them that
+/// `--memory` and `--image` exclude each other.
 #[tactic(auto, unfolding(crate::specs::Words::words_meaning))]
 pub fn read_words(words: &[&str], program: Program) -> Result<Order, WordFault>
     ensures meaning { result ≡ words_meaning program (texts_of words.now) }

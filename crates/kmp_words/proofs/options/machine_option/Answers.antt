@@ -9,5 +9,7 @@ returns-in_default c = record {
     differs _ _ c.in_default.not-text-2,
     differs _ _ c.in_default.not-text-3,
     differs _ _ c.in_default.not-text-4,
+    differs _ _ c.in_default.not-text-5,
+    differs _ _ c.in_default.not-text-6,
   ) refl;
 }
