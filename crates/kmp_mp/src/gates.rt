@@ -18,11 +18,11 @@ impl Gate for Counter {
     }
 }
 
-/// Each of three cores has the four cycles of its `halt`, which passes four stages.
+/// Each of three cores over flat memory has the four cycles of its `halt`, which passes four stages.
 #[test]
 fn the_gate_of_a_call_is_called(rt: HostRuntime) -> Result<(), Fail> {
     let alloc = rt.alloc();
-    let words = Ok(["run", "--cores=3"].to_vec(alloc)?);
+    let words = Ok(["run", "--cores=3", "--machine=pipe"].to_vec(alloc)?);
     let mut source = MemorySource::new(b"halt".to_vec(alloc)?, 4, Vec::new(alloc));
     let sink = MemorySink::new(alloc, 4096, Vec::new(alloc))?;
     let gate = Counter {
